@@ -1,0 +1,34 @@
+-- What a rounding rule owes, and the three rules. Assumes nothing.
+use mathlib.Core.Bool.{cond}
+use Prim.Native.Nat.{ℕ, _+_, _*_, _/_, _%_, _^_, _<_, _≤_}
+use lib.Dec.{eqb, leb}
+
+-- An amount has 64 bits and a divisor 32. The laws speak of these pairs alone, and not of divisor 0.
+pub record Asked (amount divisor : ℕ) : Type 0 where
+  pub amount-fits : amount < 2 ^ 64
+  pub divisor-fits : divisor < 2 ^ 32
+  pub divisor-some : 0 < divisor
+
+-- answer × divisor is less than one divisor from the amount
+pub record Near (amount divisor answer : ℕ) : Type 0 where
+  pub below : amount < answer * divisor + divisor
+  pub above : answer * divisor < amount + divisor
+
+abbrev pub Close : (ℕ → ℕ → ℕ) → Type 0
+Close answer = (amount divisor : ℕ) → Asked amount divisor → Near amount divisor (answer amount divisor)
+
+-- with one divisor, a greater amount never has a smaller answer
+abbrev pub Rising : (ℕ → ℕ → ℕ) → Type 0
+Rising answer = (less more divisor : ℕ) → Asked more divisor → less ≤ more → answer less divisor ≤ answer more divisor
+
+-- the quotient; 0 for divisor 0
+abbrev pub down : ℕ → ℕ → ℕ
+down amount divisor = cond (eqb divisor 0) 0 (amount / divisor)
+
+-- one more than the quotient if there is a remainder
+abbrev pub up : ℕ → ℕ → ℕ
+up amount divisor = cond (eqb divisor 0) 0 (amount / divisor + cond (eqb (amount % divisor) 0) 0 1)
+
+-- one more than the quotient if twice the remainder is at least the divisor
+abbrev pub nearest : ℕ → ℕ → ℕ
+nearest amount divisor = cond (eqb divisor 0) 0 (amount / divisor + cond (leb divisor (2 * (amount % divisor))) 1 0)
