@@ -1,1 +1,4 @@
 pub mod Rule
+pub mod Table
+pub mod Mixture
+pub mod Adding

@@ -1,7 +1,7 @@
 -- What a rounding rule owes, and the three rules. Assumes nothing.
-use mathlib.Core.Bool.{cond}
+use mathlib.Core.Bool.{Bool, false, cond}
 use Prim.Native.Nat.{ℕ, _+_, _*_, _/_, _%_, _^_, _<_, _≤_}
-use lib.Dec.{eqb, leb}
+use lib.Dec.{eqb, leb, ltb}
 
 -- An amount has 64 bits and a divisor 32. The laws speak of these pairs alone, and not of divisor 0.
 pub record Asked (amount divisor : ℕ) : Type 0 where
@@ -21,14 +21,19 @@ Close answer = (amount divisor : ℕ) → Asked amount divisor → Near amount d
 abbrev pub Rising : (ℕ → ℕ → ℕ) → Type 0
 Rising answer = (less more divisor : ℕ) → Asked more divisor → less ≤ more → answer less divisor ≤ answer more divisor
 
--- the quotient; 0 for divisor 0
+-- the quotient, or one more where the rule says so of the remainder and the divisor; 0 for divisor 0
+abbrev pub divided : (ℕ → ℕ → Bool) → ℕ → ℕ → ℕ
+divided one-more amount divisor =
+    cond (eqb divisor 0) 0 (amount / divisor + cond (one-more (amount % divisor) divisor) 1 0)
+
+-- the quotient
 abbrev pub down : ℕ → ℕ → ℕ
-down amount divisor = cond (eqb divisor 0) 0 (amount / divisor)
+down = divided (λ remainder divisor. false)
 
--- one more than the quotient if there is a remainder
+-- one more if there is a remainder
 abbrev pub up : ℕ → ℕ → ℕ
-up amount divisor = cond (eqb divisor 0) 0 (amount / divisor + cond (eqb (amount % divisor) 0) 0 1)
+up = divided (λ remainder divisor. ltb 0 remainder)
 
--- one more than the quotient if twice the remainder is at least the divisor
+-- one more if twice the remainder is at least the divisor
 abbrev pub nearest : ℕ → ℕ → ℕ
-nearest amount divisor = cond (eqb divisor 0) 0 (amount / divisor + cond (leb divisor (2 * (amount % divisor))) 1 0)
+nearest = divided (λ remainder divisor. leb divisor (2 * remainder))

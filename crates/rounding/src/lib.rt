@@ -1,6 +1,16 @@
 // Rounding rules, and the recursion that adds a unit to a capacity outage table.
 mod rule;
+mod rules;
 mod state;
+mod table;
 
 pub use rule::Rounding;
+pub use rules::Down;
+pub use rules::DownRounding;
+pub use rules::Nearest;
+pub use rules::NearestRounding;
+pub use rules::Up;
+pub use rules::UpRounding;
 pub use state::State;
+pub use table::FULL;
+pub use table::MILLION;

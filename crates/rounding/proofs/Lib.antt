@@ -1,0 +1,3 @@
+pub mod Amounts
+pub mod Division
+pub mod Recursion

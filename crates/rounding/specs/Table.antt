@@ -1,0 +1,28 @@
+-- A table of entries: entry k is the probability, in parts of 10^-12, that k steps or more are out. Assumes nothing.
+use mathlib.Core.Bool.{cond}
+use mathlib.Core.List.{List}
+use mathlib.Core.Path.{_≡_}
+use Prim.Native.Nat.{ℕ, _+_, _-_, _*_, _<_, _≤_}
+use lib.Dec.{ltb}
+use lib.ListN.{length, getD}
+
+-- certainty, in parts
+abbrev pub full : ℕ
+full = 1_000_000_000_000
+
+-- the entry at place k − outage; a place below 0 is read as certainty
+abbrev pub back : List ℕ → ℕ → ℕ → ℕ
+back entries k outage = cond (ltb k outage) full (getD entries (k - outage) 0)
+
+-- no entry exceeds the one before it
+abbrev pub Falling : List ℕ → Type 0
+Falling entries = (k : ℕ) → getD entries (k + 1) 0 ≤ getD entries k 0
+
+-- all entries above the greatest possible outage are 0
+abbrev pub Zeros : ℕ → List ℕ → Type 0
+Zeros greatest entries = (k : ℕ) → greatest < k → getD entries k 0 ≡ 0
+
+-- the entries lie within a tolerance of the values x k ÷ scale
+pub record Within (tolerance scale : ℕ) (x : ℕ → ℕ) (entries : List ℕ) : Type 0 where
+  pub over : (k : ℕ) → k < length entries → getD entries k 0 * scale ≤ x k + tolerance * scale
+  pub under : (k : ℕ) → k < length entries → x k ≤ getD entries k 0 * scale + tolerance * scale

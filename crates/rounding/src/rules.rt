@@ -1,0 +1,60 @@
+// The three rounding rules that are delivered.
+ghost use Rattle.rounding.specs.Rule.{down, up, nearest};
+use crate::rule::Rounding;
+
+// The quotient.
+#[derive(Clone, Copy, Debug)]
+pub struct Down;
+
+pub impl Rounding for Down as DownRounding {
+    ghost answer = { λ _. down };
+
+    fn round(&self, amount: u64, divisor: u32) -> u64 {
+        if divisor == 0 {
+            return 0;
+        }
+        amount / u64::from(divisor)
+    }
+}
+
+// One more than the quotient if there is a remainder.
+#[derive(Clone, Copy, Debug)]
+pub struct Up;
+
+pub impl Rounding for Up as UpRounding {
+    ghost answer = { λ _. up };
+
+    fn round(&self, amount: u64, divisor: u32) -> u64 {
+        if divisor == 0 {
+            return 0;
+        }
+        let divisor = u64::from(divisor);
+        let quotient = amount / divisor;
+        if amount % divisor == 0 {
+            quotient
+        } else {
+            quotient + 1
+        }
+    }
+}
+
+// One more than the quotient if twice the remainder is at least the divisor.
+#[derive(Clone, Copy, Debug)]
+pub struct Nearest;
+
+pub impl Rounding for Nearest as NearestRounding {
+    ghost answer = { λ _. nearest };
+
+    fn round(&self, amount: u64, divisor: u32) -> u64 {
+        if divisor == 0 {
+            return 0;
+        }
+        let divisor = u64::from(divisor);
+        let quotient = amount / divisor;
+        if 2 * (amount % divisor) >= divisor {
+            quotient + 1
+        } else {
+            quotient
+        }
+    }
+}
