@@ -14,3 +14,4 @@ pub use rules::UpRounding;
 pub use state::State;
 pub use table::FULL;
 pub use table::MILLION;
+pub use table::add;

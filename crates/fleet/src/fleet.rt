@@ -1,0 +1,30 @@
+// A fleet: the register, the capacity outage table of the units in service, and its tolerance.
+ghost use mathlib.Core.Path.{_≡_};
+ghost use Prim.Native.Nat.{_≤_};
+ghost use lib.ListN.{length, getD};
+ghost use Rattle.rounding.specs.Table.{full, Falling, Zeros};
+ghost use Rattle.fleet.specs.Units.{listed, greatest-outage};
+use crate::register::Register;
+
+mod changes;
+mod questions;
+
+// A table has the places 0 to 1,000.
+const PLACES: usize = 1001;
+
+// The greatest tolerance, in parts.
+const TOLERANCE: u32 = 1_000_000;
+
+#[derive(Drop)]
+pub struct Fleet {
+    register: Register,
+    // entry k: the probability in parts that k steps or more are out
+    table: [u64; PLACES],
+    // how far an entry may lie from its exact value, in parts
+    tolerance: u32,
+    ghost places: { length table ≡ 1001 },
+    ghost certain: { getD table 0 0 ≡ full },
+    ghost falling: { Falling table },
+    ghost zeros: { Zeros (greatest-outage (listed (register .len) (register .units))) table },
+    ghost held: { tolerance ≤ 1000000 },
+}

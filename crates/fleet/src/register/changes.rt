@@ -1,0 +1,35 @@
+// A register at its start, and what alters one.
+ghost use mathlib.Core.Path.{_≡_};
+ghost use mathlib.Core.Bool.{true};
+ghost use mathlib.Core.List.{[], _∷_, _++_};
+ghost use Prim.Native.Nat.{_+_, _≤_, _<_};
+ghost use lib.ListN.{length};
+ghost use Rattle.fleet.specs.States.{lawful};
+ghost use Rattle.fleet.specs.Units.{unit-of, registered-capacity};
+ghost use Rattle.fleet.specs.Registers.{units-of};
+use super::Register;
+use super::UNITS;
+use crate::record::UnitRecord;
+
+impl Register {
+    pub fn empty() -> Register
+        ensures { λ r. ⌜ units-of r ≡ [] ⌝ }
+    {
+        Register {
+            units: [UnitRecord::BLANK; UNITS],
+            len: 0,
+        }
+    }
+
+    // Puts a unit last.
+    pub fn push(&mut self, unit: UnitRecord)
+        requires room { ⌜ length (units-of (now self)) < 64 ⌝ }
+        requires lawful { ⌜ lawful (unit-of unit .capacity) (unit-of unit .states) ≡ true ⌝ }
+        requires capacity { ⌜ registered-capacity (units-of (now self)) + unit-of unit .capacity ≤ 1000 ⌝ }
+        ensures { λ _. ⌜ units-of (now (self .exit)) ≡ units-of (now (self .entry)) ++ unit-of unit ∷ [] ⌝ }
+    {
+        let at = self.len;
+        self.units[at] = unit;
+        self.len = at + 1;
+    }
+}
