@@ -1,0 +1,23 @@
+-- The number of each reason, and the layer at which it is found. Assumes nothing.
+use Prim.Native.Nat.{ℕ}
+use Rattle.indices.specs.declared.fault.Reason.{Reason}
+use Rattle.indices.specs.declared.fault.Reason.the-variants.{TooLong, NoLineFeed, Names, NotDigit, DigitCount, FieldCount, Rates}
+
+abbrev pub number : Reason → ℕ
+number TooLong = 15
+number NoLineFeed = 16
+number Names = 17
+number NotDigit = 18
+number DigitCount = 19
+number FieldCount = 20
+number Rates = 21
+
+-- 1: the bytes alone show it; 2: what they mean does
+abbrev pub layer : Reason → ℕ
+layer TooLong = 1
+layer NoLineFeed = 1
+layer Names = 2
+layer NotDigit = 1
+layer DigitCount = 1
+layer FieldCount = 2
+layer Rates = 2

@@ -1,0 +1,7 @@
+// Reads unit sheets: from bytes to rows, up to the first fault.
+mod byte;
+mod fault;
+mod text;
+
+pub use fault::Fault;
+pub use fault::Reason;
