@@ -1,3 +1,4 @@
 pub mod Fault
 pub mod Byte
 pub mod Text
+pub mod Reader

@@ -44,3 +44,10 @@ ends Comma = true
 ends LineFeed = true
 ends (Digit d) = false
 ends Other = false
+
+-- the kind that ends a line
+abbrev pub feed : Kind → Bool
+feed Comma = false
+feed LineFeed = true
+feed (Digit d) = false
+feed Other = false

@@ -4,27 +4,39 @@ ghost use mathlib.Core.Path.{_≡_};
 ghost use Prim.Native.Nat.{ℕ, _<_, _≤_};
 ghost use lib.ListN.{length, getD};
 ghost use Rattle.indices.specs.Byte.{kind};
-ghost use Rattle.indices.specs.Text.{lines, complete, ends};
+ghost use Rattle.indices.specs.Text.{lines, complete, ends, feed};
+ghost use Rattle.indices.specs.Reader.{unread, Ready, Reads};
+ghost use Rattle.std.specs.declared.result.Result.the-variants.{Ok};
 use crate::byte::Kind;
 use crate::byte::kind_of;
+use crate::fault::Fault;
+use crate::fault::Reason;
+
+// Whether a byte ends a line.
+fn feeds(b: u8) -> bool
+    ensures { λ r. ⌜ r ≡ feed (kind b) ⌝ }
+{
+    matches!(kind_of(b), Kind::LineFeed)
+}
 
 // Whether the line that the bytes begin with has its line feed.
 fn has_line_feed(bytes: &[u8]) -> bool
     ensures { λ r. ⌜ r ≡ complete (lines (now (bytes .entry))) ⌝ }
 {
     for b in bytes {
-        if let Kind::LineFeed = kind_of(*b) {
+        if feeds(*b) {
             return true;
         }
     }
     false
 }
 
-// How many bytes stand before the first that ends a field.
+// How many bytes stand before the first that ends a field, in a line that has its line feed.
 fn field_length(bytes: &[u8]) -> usize
-    ensures within { λ r. ⌜ r ≤ length (now (bytes .entry)) ⌝ }
+    requires { ⌜ complete (lines (now bytes)) ≡ true ⌝ }
+    ensures within { λ r. ⌜ r < length (now (bytes .entry)) ⌝ }
     ensures inside { λ r. ⌜ ((k : ℕ) → k < r → ends (kind (getD (now (bytes .entry)) k 0)) ≡ false) ⌝ }
-    ensures ended { λ r. ⌜ (r < length (now (bytes .entry)) → ends (kind (getD (now (bytes .entry)) r 0)) ≡ true) ⌝ }
+    ensures ended { λ r. ⌜ ends (kind (getD (now (bytes .entry)) r 0)) ≡ true ⌝ }
 {
     for (i, b) in bytes.iter().enumerate() {
         match kind_of(*b) {
@@ -33,4 +45,72 @@ fn field_length(bytes: &[u8]) -> usize
         }
     }
     bytes.len()
+}
+
+// What is left of a sheet to read.
+#[derive(Drop)]
+pub struct Reader<'a> {
+    rest: &'a [u8],
+    // of the line that is being read, from 1
+    line: u32,
+    // of the field that was read last in that line, from 1; 0 before its first
+    place: u32,
+    // the line feed of that line is read
+    ended: bool,
+}
+
+#[derive(Clone, Copy)]
+pub enum Token<'a> {
+    Field {
+        bytes: &'a [u8],
+        line: u32,
+        place: u32,
+    },
+    LineEnd,
+    SheetEnd,
+}
+
+impl<'a> Reader<'a> {
+    // The next field of a line that has its line feed.
+    fn field(&mut self) -> Token<'a>
+        requires ready { ⌜ Ready (now self) ⌝ }
+        requires unended { ⌜ now self .ended ≡ false ⌝ }
+        requires whole { ⌜ complete (lines (now (now self .rest))) ≡ true ⌝ }
+        ensures { λ r. ⌜ Reads (now (self .entry)) (Ok r) (now (self .exit)) ⌝ }
+    {
+        let rest = self.rest;
+        let length = field_length(rest);
+        self.ended = feeds(rest[length]);
+        self.rest = &rest[length + 1..];
+        self.place += 1;
+        Token::Field {
+            bytes: &rest[0..length],
+            line: self.line,
+            place: self.place,
+        }
+    }
+
+    pub fn token(&mut self) -> Result<Token<'a>, Fault>
+        requires { ⌜ Ready (now self) ⌝ }
+        ensures { λ r. ⌜ Reads (now (self .entry)) r (now (self .exit)) ⌝ }
+    {
+        if self.ended {
+            self.ended = false;
+            self.line += 1;
+            self.place = 0;
+            return Ok(Token::LineEnd);
+        }
+        if self.line > 1 && self.rest.is_empty() {
+            return Ok(Token::SheetEnd);
+        }
+        // a line without its line feed is refused before any of its fields is read
+        if self.place == 0 && !has_line_feed(self.rest) {
+            return Err(Fault {
+                reason: Reason::NoLineFeed,
+                line: self.line,
+                field: 0,
+            });
+        }
+        Ok(self.field())
+    }
 }
