@@ -2,3 +2,4 @@ pub mod Fault
 pub mod Byte
 pub mod Text
 pub mod Reader
+pub mod Value

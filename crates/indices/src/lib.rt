@@ -2,6 +2,7 @@
 mod byte;
 mod fault;
 mod text;
+mod value;
 
 pub use fault::Fault;
 pub use fault::Reason;
