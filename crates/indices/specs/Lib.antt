@@ -3,3 +3,6 @@ pub mod Byte
 pub mod Text
 pub mod Reader
 pub mod Value
+pub mod Names
+pub mod Row
+pub mod Sheet

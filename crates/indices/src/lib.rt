@@ -1,6 +1,8 @@
 // Reads unit sheets: from bytes to rows, up to the first fault.
 mod byte;
 mod fault;
+mod names;
+mod row;
 mod text;
 mod value;
 

@@ -1,0 +1,60 @@
+-- What a sheet says: its rows up to its first fault. Assumes nothing.
+use mathlib.Core.Bool.{cond}
+use mathlib.Core.List.{List, [], _∷_, map}
+use Prim.Native.Nat.{ℕ, _+_}
+use lib.Dec.{eqb, ltb}
+use lib.ListN.{length}
+use Rattle.std.specs.Options.{orOther}
+use Rattle.std.specs.declared.option.Option.{Option}
+use Rattle.std.specs.declared.option.Option.the-variants.{Some, None}
+use Rattle.std.specs.declared.result.Result.the-variants.{Ok, Err}
+use Rattle.indices.specs.declared.fault.Fault.{Fault}
+use Rattle.indices.specs.declared.fault.Reason.the-variants.{TooLong, Names, FieldCount, Rates}
+use Rattle.indices.specs.declared.names.Column.{Column}
+use Rattle.indices.specs.declared.row.Row.{Row}
+use Rattle.indices.specs.Names.{order}
+use Rattle.indices.specs.Reader.{final}
+use Rattle.indices.specs.Row.{rowOf, rates}
+use Rattle.indices.specs.Text.{Line, lines}
+use Rattle.indices.specs.Value.{value, firstWrong}
+
+pub record Sheet : Type 0 where
+  pub rows : List Row
+  pub fault : Option Fault
+
+-- no row, and perhaps a fault
+abbrev pub ended : Option Fault → Sheet
+ended fault = record { rows = []; fault = fault }
+
+abbrev pub fieldCount : ℕ → Line → Option Fault
+fieldCount line fields = cond (eqb (length fields) 5) None (Some (record { reason = FieldCount; line = line; field = 0 }))
+
+abbrev pub rateFault : Row → Option Fault
+rateFault row = cond (rates row) None (Some (record { reason = Rates; line = row .line; field = 0 }))
+
+-- the first fault of a line of values
+abbrev pub lineFault : ℕ → Line → Row → Option Fault
+lineFault line fields row = orOther (firstWrong line 1 fields) (orOther (fieldCount line fields) (rateFault row))
+
+-- a row in front, unless its line has a fault
+abbrev pub led : Option Fault → Row → Sheet → Sheet
+led None row later = record { rows = row ∷ later .rows; fault = later .fault }
+led (Some fault) row later = ended (Some fault)
+
+-- the lines below line 1, from a line on; the last is what follows the last line feed
+abbrev pub below : List Column → ℕ → List Line → Sheet
+below columns line [] = ended None
+below columns line (l ∷ []) = ended (final line l)
+below columns line (l ∷ m ∷ ls) = let row : Row = rowOf columns line (map value l) in led (lineFault line l row) row (below columns (line + 1) (m ∷ ls))
+
+abbrev pub text : List Line → Sheet
+text [] = ended None
+text (l ∷ []) = ended (final 1 l)
+text (l ∷ m ∷ ls) = elim (order [] 1 l) [
+  | Ok columns ↦ below columns 2 (m ∷ ls)
+  | Err place ↦ ended (Some (record { reason = Names; line = 1; field = place }))
+]
+
+-- a sheet has at most 65,535 bytes
+abbrev pub sheet : List ℕ → Sheet
+sheet bytes = cond (ltb 65535 (length bytes)) (ended (Some (record { reason = TooLong; line = 0; field = 0 }))) (text (lines bytes))
