@@ -2,3 +2,4 @@ pub mod Lines
 pub mod Reading
 pub mod Digits
 pub mod Columns
+pub mod Naming

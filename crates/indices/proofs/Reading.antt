@@ -9,13 +9,13 @@ use lib.Dec.{ltb}
 use lib.ListN.{length, getD, take, drop, length-drop}
 use Rattle.std.specs.declared.option.Option.the-variants.{Some, None}
 use Rattle.std.proofs.shelf.Lists.{nil-from-length}
-use Rattle.std.proofs.shelf.Tests.{lt-ltb, le-ltb, and-left, and-right}
+use Rattle.std.proofs.shelf.Tests.{both-ways, lt-ltb, le-ltb, and-left, and-right}
 use Rattle.indices.specs.declared.fault.Reason.the-variants.{NoLineFeed}
 use Rattle.indices.specs.declared.text.Reader.{Reader}
 use Rattle.indices.specs.Byte.{kind}
 use Rattle.indices.specs.Text.{Line, withField, lines, complete, feed}
-use Rattle.indices.specs.Reader.{unread, blank, Ready, FieldRead, Last}
-use Rattle.indices.proofs.Lines.{Cut, behind, lines-begun, not-blank, only-line, complete-field, field-text}
+use Rattle.indices.specs.Reader.{unread, blank, AtStart, Ready, FieldRead, LineEnded, Last}
+use Rattle.indices.proofs.Lines.{Begun, Cut, behind, lines-begun, not-blank, only-line, complete-field, field-text}
 
 unread-open : (r : Reader) → r .ended ≡ false → unread r ≡ lines (r .rest .now)
 unread-open r unended = ap (λ e. behind e (lines (r .rest .now))) unended
@@ -71,3 +71,17 @@ unfed r unended short why =
     let not-end : (ltb 1 (r .line) && blank l) ≡ false =
     ⊎-elim (λ h. and-left _ _ (le-ltb 1 (r .line) h)) (λ h. and-right (ltb 1 (r .line)) _ (not-blank (r .rest .now) l h only)) why in
     record { last = l; text = unread-open r unended ∙ only; is = rw not-end refl }
+
+pub ready-at-start : (r : Reader) → AtStart r → Ready r
+ready-at-start r start =
+    record {
+      fits = omega (arith, start .fits, start .no-place);
+      begun = λ e. absurd (both-ways (r .ended) (start .unended) e);
+      whole = λ p. absurd (omega (arith, start .no-place));
+    }
+
+pub start-after : (was is : Reader) → LineEnded was is → AtStart is
+start-after was is end = record { fits = omega (arith, end .ready .fits, end .no-place); no-place = end .no-place; unended = end .not-ended }
+
+pub begun-after : (was is : Reader) → LineEnded was is → Begun (unread is)
+begun-after was is end = rw (unread-open is (end .not-ended)) (lines-begun (is .rest .now))

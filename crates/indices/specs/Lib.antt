@@ -6,3 +6,4 @@ pub mod Value
 pub mod Names
 pub mod Row
 pub mod Sheet
+pub mod Rows

@@ -66,3 +66,9 @@ Reads was (Ok (Field bytes line place)) is = FieldRead was (bytes .now) line pla
 Reads was (Ok LineEnd) is = LineEnded was is
 Reads was (Ok SheetEnd) is = Last (was .line) (unread was) None
 Reads was (Err fault) is = Last (was .line) (unread was) (Some fault)
+
+-- at the start of a line
+pub record AtStart (r : Reader) : Type 0 where
+  pub fits : r .line + length (r .rest .now) < 2 ^ 32
+  pub no-place : r .place ≡ 0
+  pub unended : r .ended ≡ false

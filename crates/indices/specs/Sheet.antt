@@ -7,6 +7,7 @@ use lib.ListN.{length}
 use Rattle.std.specs.Options.{orOther}
 use Rattle.std.specs.declared.option.Option.{Option}
 use Rattle.std.specs.declared.option.Option.the-variants.{Some, None}
+use Rattle.std.specs.declared.result.Result.{Result}
 use Rattle.std.specs.declared.result.Result.the-variants.{Ok, Err}
 use Rattle.indices.specs.declared.fault.Fault.{Fault}
 use Rattle.indices.specs.declared.fault.Reason.the-variants.{TooLong, Names, FieldCount, Rates}
@@ -47,13 +48,15 @@ below columns line [] = ended None
 below columns line (l ∷ []) = ended (final line l)
 below columns line (l ∷ m ∷ ls) = let row : Row = rowOf columns line (map value l) in led (lineFault line l row) row (below columns (line + 1) (m ∷ ls))
 
+-- the lines below line 1, with what line 1 gives: the columns, or the place of what is wrong there
+abbrev pub headed : Result (List Column) ℕ → List Line → Sheet
+headed (Ok columns) ls = below columns 2 ls
+headed (Err place) ls = ended (Some (record { reason = Names; line = 1; field = place }))
+
 abbrev pub text : List Line → Sheet
 text [] = ended None
 text (l ∷ []) = ended (final 1 l)
-text (l ∷ m ∷ ls) = elim (order [] 1 l) [
-  | Ok columns ↦ below columns 2 (m ∷ ls)
-  | Err place ↦ ended (Some (record { reason = Names; line = 1; field = place }))
-]
+text (l ∷ m ∷ ls) = headed (order [] 1 l) (m ∷ ls)
 
 -- a sheet has at most 65,535 bytes
 abbrev pub sheet : List ℕ → Sheet

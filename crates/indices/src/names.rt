@@ -1,7 +1,20 @@
 // The names in line 1, and the order in which they stand there.
 ghost use mathlib.Core.Path.{_≡_};
 ghost use Rattle.std.specs.shelf.Text.{sameBytes};
+ghost use Rattle.std.specs.declared.option.Option.the-variants.{Some};
+ghost use Rattle.std.specs.declared.result.Result.the-variants.{Ok, Err};
+ghost use Rattle.indices.specs.declared.fault.Reason.the-variants.{Names};
 ghost use Rattle.indices.specs.Names.{column, among, fresh};
+ghost use Rattle.indices.specs.Reader.{unread, AtStart};
+ghost use Rattle.indices.specs.Rows.{NamesRead};
+ghost use Rattle.indices.specs.Sheet.{ended, text};
+use crate::fault::Fault;
+use crate::fault::Reason;
+use crate::text::Reader;
+use crate::text::Token;
+
+// each name stands once
+pub const COLUMNS: usize = 5;
 
 #[derive(Clone, Copy, PartialEq, Eq)]
 pub enum Column {
@@ -53,4 +66,44 @@ fn fresh_column(bytes: &[u8], before: &[Column]) -> Option<Column>
 {
     let c = column_of(bytes)?;
     if repeats(c, before) { None } else { Some(c) }
+}
+
+// A fault of line 1, at the place of a name or at 0.
+fn wrong_name(place: u32) -> Fault
+    ensures { λ r. ⌜ r ≡ record { reason = Names; line = 1; field = place } ⌝ }
+{
+    Fault {
+        reason: Reason::Names,
+        line: 1,
+        field: place,
+    }
+}
+
+// Line 1: the columns in their order.
+pub fn read_names(reader: &mut Reader) -> Result<[Column; COLUMNS], Fault>
+    requires start { ⌜ AtStart (now reader) ⌝ }
+    requires line { ⌜ now reader .line ≡ 1 ⌝ }
+    ensures { λ r. ⌜ elim r [ Ok columns ↦ NamesRead (now (reader .entry)) columns (now (reader .exit)) | Err fault ↦ text (unread (now (reader .entry))) ≡ ended (Some fault) ] ⌝ }
+{
+    let mut columns = [Column::Id; COLUMNS];
+    let mut count = 0;
+    loop {
+        match reader.token()? {
+            Token::Field { bytes, place, .. } => {
+                let Some(c) = fresh_column(bytes, &columns[0..count]) else {
+                    return Err(wrong_name(place));
+                };
+                columns[count] = c;
+                count += 1;
+            }
+            Token::LineEnd => break,
+            // line 1 is not the end of a sheet
+            Token::SheetEnd => unreachable(),
+        }
+    }
+    if count < COLUMNS {
+        Err(wrong_name(0))
+    } else {
+        Ok(columns)
+    }
 }

@@ -5,7 +5,7 @@ ghost use Prim.Native.Nat.{ℕ, _<_, _≤_};
 ghost use lib.ListN.{length, getD};
 ghost use Rattle.indices.specs.Byte.{kind};
 ghost use Rattle.indices.specs.Text.{lines, complete, ends, feed};
-ghost use Rattle.indices.specs.Reader.{unread, Ready, Reads};
+ghost use Rattle.indices.specs.Reader.{unread, AtStart, Ready, Reads};
 ghost use Rattle.std.specs.declared.result.Result.the-variants.{Ok};
 use crate::byte::Kind;
 use crate::byte::kind_of;
@@ -71,6 +71,21 @@ pub enum Token<'a> {
 }
 
 impl<'a> Reader<'a> {
+    // At the start of a sheet, which is short enough to count its lines and fields.
+    pub fn new(sheet: &'a [u8]) -> Self
+        requires { ⌜ length (now sheet) ≤ 65535 ⌝ }
+        ensures text { λ r. ⌜ unread r ≡ lines (now (sheet .entry)) ⌝ }
+        ensures start { λ r. ⌜ AtStart r ⌝ }
+        ensures line { λ r. ⌜ r .line ≡ 1 ⌝ }
+    {
+        Reader {
+            rest: sheet,
+            line: 1,
+            place: 0,
+            ended: false,
+        }
+    }
+
     // The next field of a line that has its line feed.
     fn field(&mut self) -> Token<'a>
         requires ready { ⌜ Ready (now self) ⌝ }
