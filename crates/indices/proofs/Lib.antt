@@ -3,3 +3,4 @@ pub mod Reading
 pub mod Digits
 pub mod Columns
 pub mod Naming
+pub mod Valuing

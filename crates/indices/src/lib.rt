@@ -1,6 +1,7 @@
 // Reads unit sheets: from bytes to rows, up to the first fault.
 mod byte;
 mod fault;
+mod line;
 mod names;
 mod row;
 mod text;

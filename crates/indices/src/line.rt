@@ -1,0 +1,58 @@
+// The values of a line below line 1.
+ghost use mathlib.Core.List.{List};
+ghost use mathlib.Core.Path.{_≡_};
+ghost use Prim.Native.Nat.{_+_, _^_, _<_};
+ghost use lib.ListN.{length, set};
+ghost use Rattle.std.specs.declared.option.Option.the-variants.{Some, None};
+ghost use Rattle.std.specs.declared.result.Result.the-variants.{Ok, Err};
+ghost use Rattle.indices.specs.declared.names.Column.{Column as Names};
+ghost use Rattle.indices.specs.Reader.{unread, AtStart, Last};
+ghost use Rattle.indices.specs.Rows.{ValuesRead};
+ghost use Rattle.indices.specs.Sheet.{ended, below};
+use crate::fault::Fault;
+use crate::names::COLUMNS;
+use crate::text::Reader;
+use crate::text::Token;
+use crate::value::parse;
+
+#[derive(Clone, Copy)]
+pub struct Values {
+    // the first of the line's values
+    pub at: [u32; COLUMNS],
+    // how many values the line has
+    pub count: usize,
+}
+
+impl Values {
+    // A value more: it is counted even where there is no room for it.
+    fn add(&mut self, value: u32)
+        requires five { ⌜ length (now self .at) ≡ 5 ⌝ }
+        requires fits { ⌜ now self .count < 2 ^ 32 ⌝ }
+        ensures five { λ _. ⌜ length (now (self .exit) .at) ≡ 5 ⌝ }
+        ensures count { λ _. ⌜ now (self .exit) .count ≡ now (self .entry) .count + 1 ⌝ }
+        ensures kept { λ _. ⌜ (now (self .entry) .count < 5 → now (self .exit) .at ≡ set (now (self .entry) .at) (now (self .entry) .count) value) ⌝ }
+    {
+        if self.count < COLUMNS {
+            self.at[self.count] = value;
+        }
+        self.count += 1;
+    }
+}
+
+// The values of the next line, or none at the end of the sheet.
+pub fn read_values(reader: &mut Reader) -> Result<Option<Values>, Fault>
+    requires { ⌜ AtStart (now reader) ⌝ }
+    ensures { λ r. ⌜ elim r [ Ok o ↦ elim o [ Some values ↦ ValuesRead (now (reader .entry)) values (now (reader .exit)) | None ↦ Last (now (reader .entry) .line) (unread (now (reader .entry))) None ] | Err fault ↦ ((columns : List Names) → below columns (now (reader .entry) .line) (unread (now (reader .entry))) ≡ ended (Some fault)) ] ⌝ }
+{
+    let mut values = Values {
+        at: [0; COLUMNS],
+        count: 0,
+    };
+    loop {
+        match reader.token()? {
+            Token::Field { bytes, line, place } => values.add(parse(bytes, line, place)?),
+            Token::LineEnd => return Ok(Some(values)),
+            Token::SheetEnd => return Ok(None),
+        }
+    }
+}
