@@ -4,3 +4,4 @@ pub mod Digits
 pub mod Columns
 pub mod Naming
 pub mod Valuing
+pub mod Placed
