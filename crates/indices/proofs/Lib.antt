@@ -5,3 +5,4 @@ pub mod Columns
 pub mod Naming
 pub mod Valuing
 pub mod Placed
+pub mod Next

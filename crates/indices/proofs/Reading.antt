@@ -17,7 +17,7 @@ use Rattle.indices.specs.Text.{Line, withField, lines, complete, feed}
 use Rattle.indices.specs.Reader.{unread, blank, AtStart, Ready, FieldRead, LineEnded, Last}
 use Rattle.indices.proofs.Lines.{Begun, Cut, behind, lines-begun, not-blank, only-line, complete-field, field-text}
 
-unread-open : (r : Reader) → r .ended ≡ false → unread r ≡ lines (r .rest .now)
+pub unread-open : (r : Reader) → r .ended ≡ false → unread r ≡ lines (r .rest .now)
 unread-open r unended = ap (λ e. behind e (lines (r .rest .now))) unended
 
 -- the reader stands behind the byte that ended the field

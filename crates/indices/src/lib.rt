@@ -4,6 +4,7 @@ mod fault;
 mod line;
 mod names;
 mod row;
+mod sheet;
 mod text;
 mod value;
 

@@ -52,7 +52,7 @@ fn field_length(bytes: &[u8]) -> usize
 pub struct Reader<'a> {
     rest: &'a [u8],
     // of the line that is being read, from 1
-    line: u32,
+    pub line: u32,
     // of the field that was read last in that line, from 1; 0 before its first
     place: u32,
     // the line feed of that line is read
