@@ -6,3 +6,4 @@ pub mod Naming
 pub mod Valuing
 pub mod Placed
 pub mod Next
+pub mod Taking

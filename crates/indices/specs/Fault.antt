@@ -1,7 +1,9 @@
 -- The number of each reason, and the layer at which it is found. Assumes nothing.
 use Prim.Native.Nat.{ℕ}
+use Rattle.fleet.specs.Refusals.{number as refusal-number}
+use Rattle.indices.specs.declared.fault.Fault.{Fault}
 use Rattle.indices.specs.declared.fault.Reason.{Reason}
-use Rattle.indices.specs.declared.fault.Reason.the-variants.{TooLong, NoLineFeed, Names, NotDigit, DigitCount, FieldCount, Rates}
+use Rattle.indices.specs.declared.fault.Reason.the-variants.{TooLong, NoLineFeed, Names, NotDigit, DigitCount, FieldCount, Rates, Fleet}
 
 abbrev pub number : Reason → ℕ
 number TooLong = 15
@@ -11,8 +13,9 @@ number NotDigit = 18
 number DigitCount = 19
 number FieldCount = 20
 number Rates = 21
+number (Fleet refusal) = refusal-number refusal
 
--- 1: the bytes alone show it; 2: what they mean does
+-- 1: the bytes alone show it; 2: what they mean does; 3: the fleet has no place for the unit
 abbrev pub layer : Reason → ℕ
 layer TooLong = 1
 layer NoLineFeed = 1
@@ -21,3 +24,14 @@ layer NotDigit = 1
 layer DigitCount = 1
 layer FieldCount = 2
 layer Rates = 2
+layer (Fleet refusal) = 3
+
+-- what is told of a fault
+pub record Report : Type 0 where
+  pub layer : ℕ
+  pub number : ℕ
+  pub line : ℕ
+  pub field : ℕ
+
+abbrev pub report : Fault → Report
+report f = record { layer = layer (f .reason); number = number (f .reason); line = f .line; field = f .field }

@@ -7,3 +7,4 @@ pub mod Names
 pub mod Row
 pub mod Sheet
 pub mod Rows
+pub mod Intake

@@ -1,6 +1,10 @@
 // What is wrong with a sheet, and where.
 ghost use mathlib.Core.Path.{_≡_};
 ghost use Rattle.indices.specs.Fault.{number, layer};
+use fleet::Refusal;
+use fleet::RefusalDebug;
+use fleet::RefusalEq;
+use fleet::RefusalPartialEq;
 
 #[derive(Clone, Copy, PartialEq, Eq, Debug)]
 pub enum Reason {
@@ -18,6 +22,8 @@ pub enum Reason {
     FieldCount,
     // rates above the whole, or just one of part and prate is 0
     Rates,
+    // the fleet refuses the unit
+    Fleet(Refusal),
 }
 
 #[derive(Clone, Copy, PartialEq, Eq, Debug)]
@@ -40,6 +46,7 @@ impl Fault {
             Reason::DigitCount => 19,
             Reason::FieldCount => 20,
             Reason::Rates => 21,
+            Reason::Fleet(refusal) => refusal.number(),
         }
     }
 
@@ -49,6 +56,7 @@ impl Fault {
         match self.reason {
             Reason::TooLong | Reason::NoLineFeed | Reason::NotDigit | Reason::DigitCount => 1,
             Reason::Names | Reason::FieldCount | Reason::Rates => 2,
+            Reason::Fleet(_) => 3,
         }
     }
 }

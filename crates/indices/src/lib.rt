@@ -1,4 +1,4 @@
-// Reads unit sheets: from bytes to rows, up to the first fault.
+// Unit sheets: from bytes to rows, and from rows to units of a fleet, up to the first fault.
 mod byte;
 mod fault;
 mod line;
@@ -6,7 +6,10 @@ mod names;
 mod row;
 mod sheet;
 mod text;
+mod unit_intake;
 mod value;
 
 pub use fault::Fault;
 pub use fault::Reason;
+pub use unit_intake::Stopped;
+pub use unit_intake::intake;
