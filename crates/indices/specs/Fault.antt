@@ -1,5 +1,8 @@
 -- The number of each reason, and the layer at which it is found. Assumes nothing.
+use mathlib.Core.List.{List, _++_}
 use Prim.Native.Nat.{ℕ}
+use lib.Chars.{codes}
+use Rattle.std.specs.Written.{decimal}
 use Rattle.fleet.specs.Refusals.{number as refusal-number}
 use Rattle.indices.specs.declared.fault.Fault.{Fault}
 use Rattle.indices.specs.declared.fault.Reason.{Reason}
@@ -25,6 +28,10 @@ layer DigitCount = 1
 layer FieldCount = 2
 layer Rates = 2
 layer (Fleet refusal) = 3
+
+-- five numbers in decimal, with commas between them
+abbrev pub five : ℕ → ℕ → ℕ → ℕ → ℕ → List ℕ
+five a b c d e = decimal a ++ (codes "," ++ (decimal b ++ (codes "," ++ (decimal c ++ (codes "," ++ (decimal d ++ (codes "," ++ decimal e)))))))
 
 -- what is told of a fault
 pub record Report : Type 0 where

@@ -12,4 +12,5 @@ mod value;
 pub use fault::Fault;
 pub use fault::Reason;
 pub use unit_intake::Stopped;
+pub use unit_intake::StoppedDisplay;
 pub use unit_intake::intake;

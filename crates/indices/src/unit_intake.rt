@@ -6,7 +6,7 @@ ghost use Rattle.std.specs.Options.{mapped};
 ghost use Rattle.std.specs.declared.option.Option.the-variants.{Some, None};
 ghost use Rattle.std.specs.declared.result.Result.the-variants.{Ok, Err};
 ghost use Rattle.fleet.specs.Fleets.{ledger-of};
-ghost use Rattle.indices.specs.Fault.{report};
+ghost use Rattle.indices.specs.Fault.{report, layer, number, five};
 ghost use Rattle.indices.specs.Intake.{row-refusal, after-row, refused-row, taken-sheet, told, Took, intake as intake-of, Answers, added-by};
 ghost use Rattle.indices.specs.Rows.{remaining, Standing};
 use crate::fault::Fault;
@@ -18,12 +18,27 @@ use crate::row::Row;
 use crate::sheet::Rows;
 use fleet::Fleet;
 use rounding::Rounding;
+use std::fmt;
 
 // A fault, and how many units were added before it.
 #[derive(Clone, Copy, PartialEq, Eq, Debug)]
 pub struct Stopped {
     pub fault: Fault,
     pub added: u32,
+}
+
+// The five numbers that are told: layer, number, line, field and how many were added.
+pub impl fmt::Display for Stopped as StoppedDisplay {
+    ghost shown = { λ s. Some (five (layer (s .fault .reason)) (number (s .fault .reason)) (s .fault .line) (s .fault .field) (s .added)) };
+
+    fn fmt<W: fmt::Write>(&self, f: &mut fmt::Formatter<W>) -> fmt::Result {
+        let layer = self.fault.layer();
+        let number = self.fault.number();
+        let line = self.fault.line;
+        let field = self.fault.field;
+        let added = self.added;
+        write!(f, "{layer},{number},{line},{field},{added}")
+    }
 }
 
 // Adds the unit that a row describes.

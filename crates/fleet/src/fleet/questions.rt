@@ -1,5 +1,6 @@
 // What can be asked of a fleet. A question alters nothing.
 ghost use mathlib.Core.Path.{_≡_};
+ghost use Prim.Native.Nat.{_≤_};
 ghost use lib.ListN.{getD};
 ghost use Rattle.fleet.specs.Refusals.{Outcome};
 ghost use Rattle.fleet.specs.Units.{capacity as service-capacity, greatest-outage};
@@ -33,14 +34,16 @@ impl Fleet {
 
     // The capacity of the units in service.
     pub fn capacity(&self) -> u32
-        ensures { λ r. ⌜ r ≡ service-capacity (ledger-of (now (self .entry)) .units) ⌝ }
+        ensures value { λ r. ⌜ r ≡ service-capacity (ledger-of (now (self .entry)) .units) ⌝ }
+        ensures bound { λ r. ⌜ r ≤ 1000 ⌝ }
     {
         self.register.total(Share::InService)
     }
 
     // The greatest possible outage of the units in service.
     pub fn greatest_outage(&self) -> u32
-        ensures { λ r. ⌜ r ≡ greatest-outage (ledger-of (now (self .entry)) .units) ⌝ }
+        ensures value { λ r. ⌜ r ≡ greatest-outage (ledger-of (now (self .entry)) .units) ⌝ }
+        ensures bound { λ r. ⌜ r ≤ 1000 ⌝ }
     {
         self.register.total(Share::Outage)
     }

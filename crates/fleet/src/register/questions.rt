@@ -68,7 +68,8 @@ impl Register {
     }
 
     pub fn total(&self, which: Share) -> u32
-        ensures { λ r. ⌜ r ≡ total-of which (units-of (now (self .entry))) ⌝ }
+        ensures value { λ r. ⌜ r ≡ total-of which (units-of (now (self .entry))) ⌝ }
+        ensures bound { λ r. ⌜ r ≤ 1000 ⌝ }
     {
         total(self.registered(), which)
     }

@@ -1,0 +1,48 @@
+// copt: reads a unit sheet from standard input and prints its capacity outage table.
+use fleet::Fleet;
+use indices::Stopped;
+use indices::StoppedDisplay;
+use indices::intake;
+use rounding::Nearest;
+use rounding::NearestRounding;
+use std::io;
+use std::io::Read;
+
+// One byte more than a sheet may have, so that a longer input shows.
+const MOST_READ: u64 = 65_536;
+
+fn read_sheet(rt: &LibcRuntime) -> io::Result<Vec<u8>> {
+    let mut sheet = Vec::new(rt.alloc());
+    rt.stdin().take(MOST_READ).read_to_end(&mut sheet)?;
+    Ok(sheet)
+}
+
+// The entries from place 0 to the greatest possible outage, each with the tolerance.
+fn print_table(rt: &LibcRuntime, fleet: &Fleet) -> io::Result<()> {
+    println!(rt, "k,entry,tolerance")?;
+    for k in 0..=fleet.greatest_outage() {
+        let Ok((parts, tolerance)) = fleet.entry(k) else {
+            unreachable()
+        };
+        println!(rt, "{k},{parts},{tolerance}")?;
+    }
+    Ok(())
+}
+
+fn print_fault(rt: &LibcRuntime, stopped: &Stopped) -> io::Result<()> {
+    println!(rt, "layer,number,line,field,added")?;
+    println!(rt, "{stopped}")
+}
+
+fn run(rt: &LibcRuntime) -> io::Result<()> {
+    let sheet = read_sheet(rt)?;
+    let mut fleet = Fleet::open();
+    match intake(&mut fleet, &Nearest, &sheet) {
+        Ok(_) => print_table(rt, &fleet),
+        Err(stopped) => print_fault(rt, &stopped),
+    }
+}
+
+fn main(rt: LibcRuntime) -> io::Result<()> {
+    rt.report(run(&rt))
+}
