@@ -1,0 +1,53 @@
+// Units that several examples use.
+use fleet::Fleet;
+use rounding::Nearest;
+use rounding::NearestRounding;
+use rounding::State;
+
+// In service with certainty.
+pub const SURE: [State; 1] = [State {
+    outage: 0,
+    weight: 1_000_000,
+}];
+
+// Capacity 3, out with weight 20,000.
+pub const THREE: [State; 2] = [
+    State {
+        outage: 0,
+        weight: 980_000,
+    },
+    State {
+        outage: 3,
+        weight: 20_000,
+    },
+];
+
+// Capacity 5, with a partial outage of 2.
+pub const FIVE: [State; 3] = [
+    State {
+        outage: 0,
+        weight: 960_000,
+    },
+    State {
+        outage: 2,
+        weight: 33_000,
+    },
+    State {
+        outage: 5,
+        weight: 7_000,
+    },
+];
+
+// The number with which a fleet refuses a unit, or 0 where it takes it.
+pub fn refused(fleet: &mut Fleet, identity: u32, capacity: u32, states: &[State]) -> u8 {
+    match fleet.add(&Nearest, identity, capacity, states) {
+        Ok(_) => 0,
+        Err(refusal) => refusal.number(),
+    }
+}
+
+// The same of an open fleet.
+pub fn refused_by_open(identity: u32, capacity: u32, states: &[State]) -> u8 {
+    let mut fleet = Fleet::open();
+    refused(&mut fleet, identity, capacity, states)
+}

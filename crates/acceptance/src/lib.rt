@@ -1,0 +1,10 @@
+// Worked examples of tables, refusals and sheets. Expected values were found by hand or by a
+// separate program.
+#[cfg(test)]
+mod cases;
+#[cfg(test)]
+mod refusals;
+#[cfg(test)]
+mod sheets;
+#[cfg(test)]
+mod tables;

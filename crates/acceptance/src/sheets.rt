@@ -1,0 +1,265 @@
+// Sheets, and each fault at its edge.
+use fleet::Fleet;
+use fleet::RefusalDebug;
+use indices::StoppedDisplay;
+use indices::intake;
+use rounding::Nearest;
+use rounding::NearestRounding;
+use std::test::*;
+
+// Layer, number, line, field and how many were added; the first four are 0 where there is no fault.
+fn told(sheet: &[u8]) -> (u8, u8, u32, u32, u32) {
+    let mut fleet = Fleet::open();
+    match intake(&mut fleet, &Nearest, sheet) {
+        Ok(added) => (0, 0, 0, 0, added),
+        Err(stopped) => {
+            let fault = stopped.fault;
+            (
+                fault.layer(),
+                fault.number(),
+                fault.line,
+                fault.field,
+                stopped.added,
+            )
+        }
+    }
+}
+
+#[test]
+fn three_units() -> Result<(), Fail> {
+    let sheet = b"id,cap,rate,part,prate\n1,3,20000,0,0\n2,3,20000,0,0\n3,5,7000,2,33000\n";
+    let mut fleet = Fleet::open();
+    check(intake(&mut fleet, &Nearest, sheet).is_ok())?;
+    check_eq(fleet.entry(3)?, (46_322_800_000, 3))?;
+    check_eq(fleet.entry(11)?, (2_800_000, 3))?;
+    check_eq(fleet.entry(12)?, (0, 3))
+}
+
+#[test]
+fn names_in_another_order() -> Result<(), Fail> {
+    let sheet = b"prate,rate,id,part,cap\n33000,7000,3,2,5\n";
+    let mut fleet = Fleet::open();
+    check(intake(&mut fleet, &Nearest, sheet).is_ok())?;
+    check_eq(fleet.unit(3), Some((5, 1)))?;
+    check_eq(fleet.entry(2)?, (40_000_000_000, 1))?;
+    check_eq(fleet.entry(5)?, (7_000_000_000, 1))?;
+    check_eq(fleet.entry(6)?, (0, 1))
+}
+
+#[test]
+fn units_before_a_fault_stay() -> Result<(), Fail> {
+    let sheet = b"id,cap,rate,part,prate\n1,3,20000,0,0\n1,3,20000,0,0\n2,3,20000,0,0\n";
+    let mut fleet = Fleet::open();
+    check(intake(&mut fleet, &Nearest, sheet).is_err())?;
+    check_eq(fleet.unit(1), Some((3, 1)))?;
+    check_eq(fleet.unit(2), None)?;
+    check_eq(fleet.entry(3)?, (20_000_000_000, 1))?;
+    check_eq(told(sheet), (3, 4, 3, 0, 1))
+}
+
+#[test]
+fn lengths_of_sheets(rt: LibcRuntime) -> Result<(), Fail> {
+    let sheet = vec![in rt.alloc(); b'1'; 65_536]?;
+    check(sheet.len() == 65_536)?;
+    check_eq(told(&sheet), (1, 15, 0, 0, 0))?;
+    check_eq(told(&sheet[0..65_535]), (1, 16, 1, 0, 0))
+}
+
+#[test]
+fn line_feeds() -> Result<(), Fail> {
+    check_eq(told(b""), (1, 16, 1, 0, 0))?;
+    check_eq(told(b"id,cap,rate,part,prate"), (1, 16, 1, 0, 0))?;
+    check_eq(told(b"id,cap,rate,part,prate\n"), (0, 0, 0, 0, 0))?;
+    check_eq(told(b"id,cap,rate,part,prate\n1,3,0,0,0"), (1, 16, 2, 0, 0))?;
+    check_eq(
+        told(b"id,cap,rate,part,prate\n1,3,0,0,0\n"),
+        (0, 0, 0, 0, 1),
+    )?;
+    check_eq(
+        told(b"id,cap,rate,part,prate\n1,3,0,0,0\nx"),
+        (1, 16, 3, 0, 1),
+    )?;
+    check_eq(told(b"x,cap"), (1, 16, 1, 0, 0)).note("16 comes before 17")
+}
+
+#[test]
+fn names() -> Result<(), Fail> {
+    check_eq(told(b"\n"), (2, 17, 1, 1, 0))?;
+    check_eq(told(b"id,Cap,rate,part,prate\n"), (2, 17, 1, 2, 0))?;
+    check_eq(told(b"id,cap,rate,part,id\n"), (2, 17, 1, 5, 0))?;
+    check_eq(told(b"id,cap,rate,part\n"), (2, 17, 1, 0, 0))?;
+    check_eq(told(b"id\n"), (2, 17, 1, 0, 0))?;
+    check_eq(told(b"id,cap,rate,part,prate,\n"), (2, 17, 1, 6, 0))?;
+    check_eq(told(b"id,cap,rate,part,prate,id\n"), (2, 17, 1, 6, 0))?;
+    check_eq(told(b"id,cap,rate,part,prate\r\n"), (2, 17, 1, 5, 0))?;
+    check_eq(told(b"id,rate,rate,x,prate\n"), (2, 17, 1, 3, 0))?;
+    check_eq(told(b"rate,part,prate,id,cap\n"), (0, 0, 0, 0, 0))
+}
+
+#[test]
+fn digits() -> Result<(), Fail> {
+    check_eq(
+        told(b"id,cap,rate,part,prate\n1,3,2000a,0,0\n"),
+        (1, 18, 2, 3, 0),
+    )?;
+    check_eq(
+        told(b"id,cap,rate,part,prate\n1,3,2000/,0,0\n"),
+        (1, 18, 2, 3, 0),
+    )?;
+    check_eq(
+        told(b"id,cap,rate,part,prate\n1,3,2000:,0,0\n"),
+        (1, 18, 2, 3, 0),
+    )?;
+    check_eq(
+        told(b"id,cap,rate,part,prate\n 1,3,0,0,0\n"),
+        (1, 18, 2, 1, 0),
+    )?;
+    check_eq(
+        told(b"id,cap,rate,part,prate\n1,3,0,0,0\r\n"),
+        (1, 18, 2, 5, 0),
+    )?;
+    check_eq(
+        told(b"id,cap,rate,part,prate\n1,3,0,0,-0\n"),
+        (1, 18, 2, 5, 0),
+    )?;
+    check_eq(
+        told(b"id,cap,rate,part,prate\n1,3,123456789x,0,0\n"),
+        (1, 18, 2, 3, 0),
+    )?;
+    check_eq(told(b"id,cap,rate,part,prate\n1,x\n"), (1, 18, 2, 2, 0))?;
+    check_eq(
+        told(b"id,cap,rate,part,prate\n1,3,0,0,0,x\n"),
+        (1, 18, 2, 6, 0),
+    )?;
+    check_eq(
+        told(b"id,cap,rate,part,prate\n9,9,0987654,0,0\n"),
+        (0, 0, 0, 0, 1),
+    )
+}
+
+#[test]
+fn numbers_of_digits() -> Result<(), Fail> {
+    check_eq(
+        told(b"id,cap,rate,part,prate\n1,3,0020000,0,0\n"),
+        (0, 0, 0, 0, 1),
+    )?;
+    check_eq(
+        told(b"id,cap,rate,part,prate\n1,3,00020000,0,0\n"),
+        (1, 19, 2, 3, 0),
+    )?;
+    check_eq(
+        told(b"id,cap,rate,part,prate\n1,3,,0,0\n"),
+        (1, 19, 2, 3, 0),
+    )?;
+    check_eq(
+        told(b"id,cap,rate,part,prate\n1,3,0,0,\n"),
+        (1, 19, 2, 5, 0),
+    )?;
+    check_eq(told(b"id,cap,rate,part,prate\n\n"), (1, 19, 2, 1, 0))?;
+    check_eq(
+        told(b"id,cap,rate,part,prate\n1,,x,0,0\n"),
+        (1, 19, 2, 2, 0),
+    )?;
+    check_eq(
+        told(b"id,cap,rate,part,prate\n1,x,,0,0\n"),
+        (1, 18, 2, 2, 0),
+    )
+}
+
+#[test]
+fn numbers_of_fields() -> Result<(), Fail> {
+    check_eq(told(b"id,cap,rate,part,prate\n1,3,0,0\n"), (2, 20, 2, 0, 0))?;
+    check_eq(
+        told(b"id,cap,rate,part,prate\n1,3,0,0,0,0\n"),
+        (2, 20, 2, 0, 0),
+    )?;
+    check_eq(
+        told(b"id,cap,rate,part,prate\n1,3,0,0,0\n1\n"),
+        (2, 20, 3, 0, 1),
+    )?;
+    check_eq(
+        told(b"id,cap,rate,part,prate\n0,0,1000000,0\n"),
+        (2, 20, 2, 0, 0),
+    )
+}
+
+#[test]
+fn rates() -> Result<(), Fail> {
+    check_eq(
+        told(b"id,cap,rate,part,prate\n1,3,999999,0,0\n"),
+        (0, 0, 0, 0, 1),
+    )?;
+    check_eq(
+        told(b"id,cap,rate,part,prate\n1,3,1000000,0,0\n"),
+        (2, 21, 2, 0, 0),
+    )?;
+    check_eq(
+        told(b"id,cap,rate,part,prate\n1,3,999998,1,1\n"),
+        (0, 0, 0, 0, 1),
+    )?;
+    check_eq(
+        told(b"id,cap,rate,part,prate\n1,3,999998,1,2\n"),
+        (2, 21, 2, 0, 0),
+    )?;
+    check_eq(
+        told(b"id,cap,rate,part,prate\n1,3,0,1,0\n"),
+        (2, 21, 2, 0, 0),
+    )?;
+    check_eq(
+        told(b"id,cap,rate,part,prate\n1,3,0,0,1\n"),
+        (2, 21, 2, 0, 0),
+    )?;
+    check_eq(
+        told(b"id,cap,rate,part,prate\n1,3,0,1,1\n"),
+        (0, 0, 0, 0, 1),
+    )?;
+    check_eq(
+        told(b"id,cap,rate,part,prate\n0,0,9999999,0,9999999\n"),
+        (2, 21, 2, 0, 0),
+    )
+}
+
+#[test]
+fn refusals_of_the_fleet() -> Result<(), Fail> {
+    check_eq(
+        told(b"id,cap,rate,part,prate\n0,3,0,0,0\n"),
+        (3, 1, 2, 0, 0),
+    )?;
+    check_eq(
+        told(b"id,cap,rate,part,prate\n65536,3,0,0,0\n"),
+        (3, 1, 2, 0, 0),
+    )?;
+    check_eq(
+        told(b"id,cap,rate,part,prate\n1,1001,0,0,0\n"),
+        (3, 2, 2, 0, 0),
+    )?;
+    check_eq(
+        told(b"id,cap,rate,part,prate\n1,3,1,3,1\n"),
+        (3, 3, 2, 0, 0),
+    )?;
+    check_eq(
+        told(b"id,cap,rate,part,prate\n1,3,0,3,1\n"),
+        (0, 0, 0, 0, 1),
+    )?;
+    check_eq(
+        told(b"id,cap,rate,part,prate\n1,3,0,4,1\n"),
+        (3, 3, 2, 0, 0),
+    )?;
+    check_eq(
+        told(b"id,cap,rate,part,prate\n1,1000,0,0,0\n2,1,0,0,0\n"),
+        (3, 6, 3, 0, 1),
+    )
+}
+
+#[test]
+fn a_fault_in_writing(rt: LibcRuntime) -> Result<(), Fail> {
+    let sheet = b"id,cap,rate,part,prate\n1,3,20000,0,0\n2,3,2000a,0,0\n";
+    let mut fleet = Fleet::open();
+    match intake(&mut fleet, &Nearest, sheet) {
+        Ok(_) => Err(Fail::new("a fault was expected")),
+        Err(stopped) => {
+            let line = format!(rt.alloc(), "{stopped}")?;
+            check_eq(line.as_str(), "1,18,3,3,1")
+        }
+    }
+}
