@@ -1,14 +1,14 @@
 -- Laws of columns: equal or not, among others or not, and no more than five apart. Assumes nothing.
-use mathlib.Core.Bool.{Bool, true, false, cond, _&&_, _||_}
+use mathlib.Core.Bool.{true, false, cond, _||_}
 use mathlib.Core.List.{List, [], _∷_, _++_}
-use mathlib.Core.Logic.{_⊎_, inl, inr, ⊎-elim}
+use mathlib.Core.Logic.{⊎-elim}
 use mathlib.Core.Path.{_≡_, refl, sym, ap, _∙_}
 use Prim.Native.Nat.{ℕ, _+_, _<_, _≤_}
 use native.Mathlib.Omega.{arith}
 use lib.Dec.{eqb}
 use lib.ListN.{length, getD, drop}
 use Rattle.std.proofs.shelf.Lists.{at-drop-more, length-push}
-use Rattle.std.proofs.shelf.Tests.{both-ways, eqb-true, ne-eqb, eq-eqb, cases-bool, cases-eq, or-parts, or-left, and-parts, and-from}
+use Rattle.std.proofs.shelf.Tests.{both-ways, eqb-true, ne-eqb, eq-eqb, cases-bool, or-parts, or-left, and-parts, and-from}
 use Rattle.indices.specs.declared.names.Column.{Column}
 use Rattle.indices.specs.declared.names.Column.the-variants.{Id, Cap, Rate, Part, Prate}
 use Rattle.indices.specs.Names.{index, same, among, all}

@@ -1,16 +1,15 @@
 -- Laws of digits and values. Assumes nothing.
-use mathlib.Core.Bool.{Bool, true, false, cond, _&&_}
+use mathlib.Core.Bool.{true, false, _&&_}
 use mathlib.Core.List.{List, [], _∷_}
 use mathlib.Core.Path.{_≡_, refl, sym, ap, _∙_}
 use Prim.Native.Nat.{ℕ, zero, suc, _+_, _-_, _*_, _^_, _<_, _≤_}
 use native.Mathlib.Nat.{pow-suc, pow-le-pow-right}
 use native.Mathlib.Numerals.{add-one}
 use native.Mathlib.Omega.{arith}
-use lib.Dec.{eqb, leb}
 use lib.ListN.{length, getD, take, drop}
 use Rattle.std.proofs.shelf.Lists.{at-drop-more}
 use Rattle.std.proofs.shelf.Sums.{folded-more}
-use Rattle.std.proofs.shelf.Tests.{both-ways, and-parts, and-left}
+use Rattle.std.proofs.shelf.Tests.{and-parts, and-left}
 use Rattle.std.proofs.shelf.Ways.{tells}
 use Rattle.indices.specs.declared.byte.Kind.{Kind}
 use Rattle.indices.specs.declared.byte.Kind.the-variants.{Comma, LineFeed, Digit, Other}

@@ -12,8 +12,8 @@ use Rattle.std.proofs.shelf.Tests.{both-ways, cases-lt}
 use Rattle.indices.specs.declared.byte.Kind.{Kind}
 use Rattle.indices.specs.declared.byte.Kind.the-variants.{Comma, LineFeed, Digit, Other}
 use Rattle.indices.specs.Byte.{kind}
-use Rattle.indices.specs.Reader.{blank}
-use Rattle.indices.specs.Text.{Line, withField, withByte, begun, lines, complete, ends, feed}
+use Rattle.indices.specs.End.{blank}
+use Rattle.indices.specs.Text.{Line, with-field, with-byte, begun, lines, complete, ends, feed}
 
 -- a text has a line, and a line has a field
 pub record Begun (ls : List Line) : Type 0 where
@@ -57,7 +57,7 @@ pub only-line : (l : Line) (ls : List Line) → complete (l ∷ ls) ≡ false �
 only-line l [] h = refl
 only-line l (m ∷ ls) h = absurd (both-ways true h refl)
 
-complete-byte : (b : ℕ) (ls : List Line) → complete (withByte b ls) ≡ complete ls
+complete-byte : (b : ℕ) (ls : List Line) → complete (with-byte b ls) ≡ complete ls
 complete-byte b [] = refl
 complete-byte b ([] ∷ []) = refl
 complete-byte b ((f ∷ fs) ∷ []) = refl
@@ -110,11 +110,11 @@ pub field-ends : (bs : List ℕ) (n : ℕ) → n ≤ length bs → ((k : ℕ) �
 field-ends bs n le inside whole =
     ⊎-elim (λ h. h) (λ h. absurd (both-ways (complete (lines bs)) (no-feed bs (λ k lt. inside k (omega arith))) whole)) (cases-lt n (length bs))
 
-withByte-field : (b : ℕ) (f : List ℕ) (ls : List Line) → withByte b (withField f ls) ≡ withField (b ∷ f) ls
-withByte-field b f [] = refl
-withByte-field b f (l ∷ ls) = refl
+with-byte-field : (b : ℕ) (f : List ℕ) (ls : List Line) → with-byte b (with-field f ls) ≡ with-field (b ∷ f) ls
+with-byte-field b f [] = refl
+with-byte-field b f (l ∷ ls) = refl
 
-begun-in : (k : Kind) (b : ℕ) (ls : List Line) → ends k ≡ false → begun k b ls ≡ withByte b ls
+begun-in : (k : Kind) (b : ℕ) (ls : List Line) → ends k ≡ false → begun k b ls ≡ with-byte b ls
 begun-in Comma b ls h = absurd (both-ways true h refl)
 begun-in LineFeed b ls h = absurd (both-ways true h refl)
 begun-in (Digit d) b ls h = refl
@@ -124,7 +124,7 @@ begun-in Other b ls h = refl
 abbrev pub behind : Bool → List Line → List Line
 behind fed ls = cond fed ([] ∷ ls) ls
 
-begun-end : (k : Kind) (b : ℕ) (ls : List Line) → ends k ≡ true → begun k b ls ≡ withField [] (behind (feed k) ls)
+begun-end : (k : Kind) (b : ℕ) (ls : List Line) → ends k ≡ true → begun k b ls ≡ with-field [] (behind (feed k) ls)
 begun-end Comma b ls h = refl
 begun-end LineFeed b ls h = refl
 begun-end (Digit d) b ls h = absurd (both-ways false refl h)
@@ -136,18 +136,18 @@ pub record Cut (bs : List ℕ) (n : ℕ) : Type 0 where
   pub inside : (k : ℕ) → k < n → ends (kind (getD bs k 0)) ≡ false
   pub end : ends (kind (getD bs n 0)) ≡ true
 
-field-is : (bs : List ℕ) (n : ℕ) → Cut bs n → lines bs ≡ withField (take n bs) (behind (feed (kind (getD bs n 0))) (lines (drop (suc n) bs)))
+field-is : (bs : List ℕ) (n : ℕ) → Cut bs n → lines bs ≡ with-field (take n bs) (behind (feed (kind (getD bs n 0))) (lines (drop (suc n) bs)))
 field-is [] n cut = absurd (omega arith)
 field-is (b ∷ bs) zero cut = begun-end (kind b) b (lines bs) (cut .end)
 field-is (b ∷ bs) (suc n) cut =
     let rest : Cut bs n = record { within = omega (arith, cut .within); inside = λ k lt. cut .inside (suc k) (omega arith); end = cut .end } in
-    begun-in (kind b) b (lines bs) (cut .inside 0 (omega arith)) ∙ ap (withByte b) (field-is bs n rest) ∙ withByte-field b (take n bs) _
+    begun-in (kind b) b (lines bs) (cut .inside 0 (omega arith)) ∙ ap (with-byte b) (field-is bs n rest) ∙ with-byte-field b (take n bs) _
 
 -- a text is its first field and what follows the byte that ends it
-pub field-text : (bs : List ℕ) (n : ℕ) → Cut bs n → lines bs ≡ withField (take n bs) (behind (feed (kind (getD bs n 0))) (lines (drop (n + 1) bs)))
+pub field-text : (bs : List ℕ) (n : ℕ) → Cut bs n → lines bs ≡ with-field (take n bs) (behind (feed (kind (getD bs n 0))) (lines (drop (n + 1) bs)))
 field-text bs n cut = rw add-one (field-is bs n cut)
 
-pub complete-field : (f : List ℕ) (ls : List Line) → complete (withField f ls) ≡ complete ls
+pub complete-field : (f : List ℕ) (ls : List Line) → complete (with-field f ls) ≡ complete ls
 complete-field f [] = refl
 complete-field f (l ∷ []) = refl
 complete-field f (l ∷ m ∷ ls) = refl

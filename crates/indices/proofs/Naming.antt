@@ -1,5 +1,5 @@
 -- What a sheet says while line 1 is being read. Assumes nothing.
-use mathlib.Core.Bool.{Bool, true, false, cond}
+use mathlib.Core.Bool.{true, false, cond}
 use mathlib.Core.List.{List, [], _∷_, _++_}
 use mathlib.Core.Logic.{⊎-elim}
 use mathlib.Core.Path.{_≡_, refl, sym, ap, _∙_}
@@ -8,7 +8,6 @@ use native.Mathlib.Omega.{arith}
 use lib.ListN.{length, take, set}
 use Rattle.std.specs.declared.option.Option.{Option}
 use Rattle.std.specs.declared.option.Option.the-variants.{Some, None}
-use Rattle.std.specs.declared.result.Result.{Result}
 use Rattle.std.specs.declared.result.Result.the-variants.{Ok, Err}
 use Rattle.std.proofs.shelf.Lists.{take-more-set, take-all, length-set, length-take-le}
 use Rattle.std.proofs.shelf.Tests.{both-ways, cases-bool, cond-true, cond-false}
@@ -17,18 +16,19 @@ use Rattle.indices.specs.declared.fault.Reason.the-variants.{Names}
 use Rattle.indices.specs.declared.names.Column.{Column}
 use Rattle.indices.specs.declared.text.Reader.{Reader}
 use Rattle.indices.specs.Names.{column, among, all, fresh, order}
-use Rattle.indices.specs.Reader.{unread, final, AtStart, Ready, FieldRead, LineEnded, Last}
+use Rattle.indices.specs.End.{final}
+use Rattle.indices.specs.Reader.{unread, AtStart, Ready, FieldRead, LineEnded, Last}
 use Rattle.indices.specs.Rows.{NamesRead}
-use Rattle.indices.specs.Sheet.{Sheet, ended, below, headed, text}
-use Rattle.indices.specs.Text.{Line, withField, complete}
+use Rattle.indices.specs.Sheet.{Sheet, rowless, below, headed, text}
+use Rattle.indices.specs.Text.{Line, with-field, complete}
 use Rattle.indices.proofs.Columns.{Once, once-none, once-push, room, all-five, not-all}
 use Rattle.indices.proofs.Lines.{Begun}
 use Rattle.indices.proofs.Reading.{ready-at-start, start-after, begun-after}
 
 -- what a sheet says, the fields before a place of line 1 being read
 abbrev pub named : List Column → ℕ → List Line → Sheet
-named before place [] = ended None
-named before place (l ∷ []) = ended (final 1 l)
+named before place [] = rowless None
+named before place (l ∷ []) = rowless (final 1 l)
 named before place (l ∷ m ∷ ls) = headed (order before place l) (m ∷ ls)
 
 text-named : (ls : List Line) → text ls ≡ named [] 1 ls
@@ -46,12 +46,12 @@ named-field before place f l m ls None h =
 named-field before place f l m ls (Some c) h =
     ap (λ (o : Option Column). headed (elim o [ None ↦ Err place | Some c ↦ order (before ++ (c ∷ [])) (place + 1) l ]) (m ∷ ls)) h
 
-named-wrong : (before : List Column) (place : ℕ) (f : List ℕ) (ls : List Line) → complete ls ≡ true → fresh before (column f) ≡ None → named before place (withField f ls) ≡ headed (Err place) ls
+named-wrong : (before : List Column) (place : ℕ) (f : List ℕ) (ls : List Line) → complete ls ≡ true → fresh before (column f) ≡ None → named before place (with-field f ls) ≡ headed (Err place) ls
 named-wrong before place f [] whole h = absurd (both-ways false refl whole)
 named-wrong before place f (l ∷ []) whole h = absurd (both-ways false refl whole)
 named-wrong before place f (l ∷ m ∷ ls) whole h = named-field before place f l m ls None h
 
-named-next : (before : List Column) (place : ℕ) (f : List ℕ) (ls : List Line) (c : Column) → complete ls ≡ true → fresh before (column f) ≡ Some c → named before place (withField f ls) ≡ named (before ++ (c ∷ [])) (place + 1) ls
+named-next : (before : List Column) (place : ℕ) (f : List ℕ) (ls : List Line) (c : Column) → complete ls ≡ true → fresh before (column f) ≡ Some c → named before place (with-field f ls) ≡ named (before ++ (c ∷ [])) (place + 1) ls
 named-next before place f [] c whole h = absurd (both-ways false refl whole)
 named-next before place f (l ∷ []) c whole h = absurd (both-ways false refl whole)
 named-next before place f (l ∷ m ∷ ls) c whole h = named-field before place f l m ls (Some c) h
@@ -99,7 +99,7 @@ module _ (was mid is : Reader) (columns : List Column) (count : ℕ) (h : Naming
     pub whole : complete (unread is) ≡ true
     whole = read .ready .whole (omega (arith, read .next-place))
 
-    pub naming-wrong : fresh (take count columns) (column f) ≡ None → text (unread was) ≡ ended (Some (record { reason = Names; line = 1; field = place }))
+    pub naming-wrong : fresh (take count columns) (column f) ≡ None → text (unread was) ≡ rowless (Some (record { reason = Names; line = 1; field = place }))
     naming-wrong bad =
         h .says ∙ ap (named (take count columns) (mid .place + 1)) (read .text) ∙ named-wrong (take count columns) (mid .place + 1) f (unread is) whole bad ∙ ap (λ p. headed (Err p) (unread is)) (sym (read .place-is))
 
@@ -130,7 +130,7 @@ module _ (was mid is : Reader) (columns : List Column) (count : ℕ) (h : Naming
     over =
         h .says ∙ ap (named (take count columns) (mid .place + 1)) (end .text) ∙ named-over (take count columns) (mid .place + 1) (unread is) (begun-after mid is end)
 
-    pub naming-short : count < 5 → text (unread was) ≡ ended (Some (record { reason = Names; line = 1; field = 0 }))
+    pub naming-short : count < 5 → text (unread was) ≡ rowless (Some (record { reason = Names; line = 1; field = 0 }))
     naming-short short =
         over ∙ ap (λ t. headed (cond t (Ok (take count columns)) (Err 0)) (unread is)) (not-all (take count columns) (h .once) (omega (arith, seen)))
 
@@ -145,9 +145,9 @@ module _ (was mid is : Reader) (columns : List Column) (count : ℕ) (h : Naming
           line = omega (arith, end .next-line, h .line);
         }
 
-  pub naming-last : (fault : Fault) → Last (mid .line) (unread mid) (Some fault) → text (unread was) ≡ ended (Some fault)
+  pub naming-last : (fault : Fault) → Last (mid .line) (unread mid) (Some fault) → text (unread was) ≡ rowless (Some fault)
   naming-last fault end =
-      h .says ∙ ap (named (take count columns) (mid .place + 1)) (end .text) ∙ ap (λ n. ended (final n (end .last))) (sym (h .line)) ∙ ap ended (end .is)
+      h .says ∙ ap (named (take count columns) (mid .place + 1)) (end .text) ∙ ap (λ n. rowless (final n (end .last))) (sym (h .line)) ∙ ap rowless (end .is)
 
   -- a sheet does not end at line 1
   pub naming-on : Last (mid .line) (unread mid) None → ⊥

@@ -1,7 +1,7 @@
 -- Laws of the value in a column's place, and of states added one by one. Assumes nothing.
-use mathlib.Core.Bool.{true, false, cond}
+use mathlib.Core.Bool.{cond}
 use mathlib.Core.List.{List, [], _∷_, _++_}
-use mathlib.Core.Path.{_≡_, refl, sym, ap, _∙_}
+use mathlib.Core.Path.{_≡_, sym, ap, _∙_}
 use Prim.Native.Nat.{ℕ, _+_, _<_, _≤_}
 use native.Mathlib.Omega.{arith}
 use lib.Dec.{eqb}
@@ -11,7 +11,7 @@ use Rattle.std.proofs.shelf.Lists.{drop-more, drop-all, take-more-set}
 use Rattle.std.proofs.shelf.Tests.{cond-true, cond-false, ne-eqb}
 use Rattle.indices.specs.declared.names.Column.{Column}
 use Rattle.indices.specs.Names.{same}
-use Rattle.indices.specs.Row.{under, stateIf}
+use Rattle.indices.specs.Row.{under, state-if}
 use Rattle.indices.proofs.Columns.{same-from-equal, same-not}
 
 module _ (c : Column) (ds : List Column) (vs : List ℕ) (i : ℕ) where
@@ -27,6 +27,6 @@ module _ (c : Column) (ds : List Column) (vs : List ℕ) (i : ℕ) where
   pub under-none : length ds ≤ i → under c (drop i ds) (drop i vs) ≡ 0
   under-none h = ap (λ l. under c l (drop i vs)) (drop-all i ds h)
 
-pub state-more : (decides : ℕ) (at : List State) (n : ℕ) (s : State) → (decides ≡ 0 → ⊥) → n < length at → take (n + 1) (set at n s) ≡ take n at ++ stateIf decides (s .outage) (s .weight)
+pub state-more : (decides : ℕ) (at : List State) (n : ℕ) (s : State) → (decides ≡ 0 → ⊥) → n < length at → take (n + 1) (set at n s) ≡ take n at ++ state-if decides (s .outage) (s .weight)
 state-more decides at n s some h =
     take-more-set at n s h ∙ ap (λ l. take n at ++ l) (sym (cond-false (eqb decides 0) [] (s ∷ []) (ne-eqb decides 0 some)))

@@ -1,5 +1,5 @@
 -- What each step of a reader does to what is unread. Assumes nothing.
-use mathlib.Core.Bool.{Bool, true, false, cond, _&&_}
+use mathlib.Core.Bool.{true, false, _&&_}
 use mathlib.Core.Logic.{_⊎_, ⊎-elim}
 use mathlib.Core.List.{List, [], _∷_}
 use mathlib.Core.Path.{_≡_, refl, sym, ap, _∙_}
@@ -13,8 +13,9 @@ use Rattle.std.proofs.shelf.Tests.{both-ways, lt-ltb, le-ltb, and-left, and-rig
 use Rattle.indices.specs.declared.fault.Reason.the-variants.{NoLineFeed}
 use Rattle.indices.specs.declared.text.Reader.{Reader}
 use Rattle.indices.specs.Byte.{kind}
-use Rattle.indices.specs.Text.{Line, withField, lines, complete, feed}
-use Rattle.indices.specs.Reader.{unread, blank, AtStart, Ready, FieldRead, LineEnded, Last}
+use Rattle.indices.specs.Text.{Line, with-field, lines, complete, feed}
+use Rattle.indices.specs.End.{blank}
+use Rattle.indices.specs.Reader.{unread, AtStart, Ready, FieldRead, LineEnded, Last}
 use Rattle.indices.proofs.Lines.{Begun, Cut, behind, lines-begun, not-blank, only-line, complete-field, field-text}
 
 pub unread-open : (r : Reader) → r .ended ≡ false → unread r ≡ lines (r .rest .now)
@@ -31,8 +32,8 @@ module _ (was is : Reader) (n : ℕ) (ready : Ready was) (unended : was .ended �
   abbrev front : List ℕ
   front = take n (was .rest .now)
 
-  first : lines (was .rest .now) ≡ withField front (unread is)
-  first = field-text (was .rest .now) n cut ∙ ap (withField front) (sym (λ i. behind (moved .ended i) (lines (moved .rest i))))
+  first : lines (was .rest .now) ≡ with-field front (unread is)
+  first = field-text (was .rest .now) n cut ∙ ap (with-field front) (sym (λ i. behind (moved .ended i) (lines (moved .rest i))))
 
   pub ready-after : Ready is
   ready-after =

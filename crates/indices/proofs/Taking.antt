@@ -19,7 +19,7 @@ use Rattle.indices.specs.Fault.{Report, report}
 use Rattle.indices.specs.Intake.{Intake, row-refusal, after-row, refused-row, taken, taken-sheet, Took}
 use Rattle.indices.specs.Row.{states}
 use Rattle.indices.specs.Rows.{remaining, Standing, RowRead}
-use Rattle.indices.specs.Sheet.{Sheet, ended}
+use Rattle.indices.specs.Sheet.{Sheet, rowless}
 
 abbrev pub left : Ledger → ℕ → Option Report → Intake
 left l n fault = record { ledger = l; added = n; fault = fault }
@@ -37,9 +37,9 @@ taken-more answer row rows fault l n = at (row-refusal l row)
     at (Some number) = refl
 
 -- the sheet ends, with a fault or without
-pub taken-ended : (answer : ℕ → ℕ → ℕ) (s : Sheet) (fault : Option Fault) (l : Ledger) (n : ℕ) → s ≡ ended fault → taken-sheet answer s l n ≡ left l n (mapped report fault)
+pub taken-rowless : (answer : ℕ → ℕ → ℕ) (s : Sheet) (fault : Option Fault) (l : Ledger) (n : ℕ) → s ≡ rowless fault → taken-sheet answer s l n ≡ left l n (mapped report fault)
 unfolding taken
-taken-ended answer s fault l n h = ap (λ t. taken-sheet answer t l n) h
+taken-rowless answer s fault l n h = ap (λ t. taken-sheet answer t l n) h
 
 refused-keeps : {A : Type 0} (o : Option ℕ) (number : ℕ) (before after : A) → o ≡ Some number → unless o before after ≡ before
 refused-keeps o number before after h = ap (λ r. unless r before after) h
@@ -113,15 +113,15 @@ took i l n fault h = record { ledger-is = ap (λ j. j .ledger) h; added-is = ap 
 -- what `next_row` tells of its answer
 abbrev pub Next : Rows → Rows → Option Row → Type 0
 Next was is (Some row) = RowRead was row is
-Next was is None = remaining was ≡ ended None
+Next was is None = remaining was ≡ rowless None
 
 pub some-row : (was is : Rows) (o : Option Row) (row : Row) → o ≡ Some row → Next was is o → RowRead was row is
 some-row was is o row h next = subst (Next was is) h next
 
-pub no-row : (was is : Rows) (o : Option Row) → o ≡ None → Next was is o → remaining was ≡ ended None
+pub no-row : (was is : Rows) (o : Option Row) → o ≡ None → Next was is o → remaining was ≡ rowless None
 no-row was is o h next = subst (Next was is) h next
 
 -- nothing is taken of a sheet that has no rows
-pub took-ended : (answer : ℕ → ℕ → ℕ) (s : Sheet) (fault : Option Fault) (l : Ledger) (n : ℕ) → n ≡ 0 → s ≡ ended fault → Took (taken-sheet answer s l 0) l n (mapped report fault)
-took-ended answer s fault l n none h =
-    took _ l n (mapped report fault) (ap (λ m. left l m (mapped report fault)) none ∙ sym (taken-ended answer s fault l 0 h))
+pub took-rowless : (answer : ℕ → ℕ → ℕ) (s : Sheet) (fault : Option Fault) (l : Ledger) (n : ℕ) → n ≡ 0 → s ≡ rowless fault → Took (taken-sheet answer s l 0) l n (mapped report fault)
+took-rowless answer s fault l n none h =
+    took _ l n (mapped report fault) (ap (λ m. left l m (mapped report fault)) none ∙ sym (taken-rowless answer s fault l 0 h))

@@ -1,27 +1,28 @@
 -- What is known while a line of values is being read. Assumes nothing.
-use mathlib.Core.Bool.{Bool, true, false}
+use mathlib.Core.Bool.{true, false}
 use mathlib.Core.List.{List, [], _∷_, _++_, map}
 use mathlib.Core.Logic.{⊎-elim}
-use mathlib.Core.Path.{_≡_, refl, sym, ap, subst, _∙_}
-use Prim.Native.Nat.{ℕ, _+_, _^_, _<_, _≤_}
+use mathlib.Core.Path.{_≡_, refl, sym, ap, _∙_}
+use Prim.Native.Nat.{ℕ, _+_, _<_, _≤_}
 use native.Mathlib.Omega.{arith}
 use lib.ListN.{length, take, set}
 use Rattle.std.specs.Options.{orOther}
 use Rattle.std.specs.declared.option.Option.{Option}
 use Rattle.std.specs.declared.option.Option.the-variants.{Some, None}
-use Rattle.std.proofs.shelf.Lists.{append-assoc, append-nil, take-all, take-more-set, length-set}
+use Rattle.std.proofs.shelf.Lists.{append-assoc, append-nil, take-all, take-more-set}
 use Rattle.std.proofs.shelf.Tests.{both-ways, cases-lt}
 use Rattle.indices.specs.declared.fault.Fault.{Fault}
 use Rattle.indices.specs.declared.line.Values.{Values}
 use Rattle.indices.specs.declared.names.Column.{Column}
 use Rattle.indices.specs.declared.row.Row.{Row}
 use Rattle.indices.specs.declared.text.Reader.{Reader}
-use Rattle.indices.specs.Reader.{unread, final, AtStart, Ready, FieldRead, LineEnded, Last}
-use Rattle.indices.specs.Row.{rowOf}
+use Rattle.indices.specs.End.{final}
+use Rattle.indices.specs.Reader.{unread, AtStart, Ready, FieldRead, LineEnded, Last}
+use Rattle.indices.specs.Row.{row-of}
 use Rattle.indices.specs.Rows.{ValuesRead}
-use Rattle.indices.specs.Sheet.{Sheet, ended, fieldCount, rateFault, led, below}
-use Rattle.indices.specs.Text.{Line, withField, complete}
-use Rattle.indices.specs.Value.{value, wrong, located, firstWrong}
+use Rattle.indices.specs.Sheet.{rowless, count-fault, rate-fault, led, below}
+use Rattle.indices.specs.Text.{Line, with-field, complete}
+use Rattle.indices.specs.Value.{value, wrong, located, first-wrong}
 use Rattle.indices.proofs.Lines.{complete-field}
 use Rattle.indices.proofs.Reading.{ready-at-start, start-after}
 
@@ -37,21 +38,21 @@ whole-first : (ls : List Line) → complete ls ≡ true → ls ≡ first ls ∷ 
 whole-first [] h = absurd (both-ways false refl h)
 whole-first (l ∷ ls) h = refl
 
-first-field : (f : List ℕ) (ls : List Line) → complete ls ≡ true → first (withField f ls) ≡ f ∷ first ls
+first-field : (f : List ℕ) (ls : List Line) → complete ls ≡ true → first (with-field f ls) ≡ f ∷ first ls
 first-field f [] h = absurd (both-ways false refl h)
 first-field f (l ∷ ls) h = refl
 
-later-field : (f : List ℕ) (ls : List Line) → later (withField f ls) ≡ later ls
+later-field : (f : List ℕ) (ls : List Line) → later (with-field f ls) ≡ later ls
 later-field f [] = refl
 later-field f (l ∷ ls) = refl
 
 -- a line whose fields have a fault stops the sheet there
-below-wrong : (columns : List Column) (line : ℕ) (ls : List Line) (fault : Fault) → complete ls ≡ true → firstWrong line 1 (first ls) ≡ Some fault → below columns line ls ≡ ended (Some fault)
+below-wrong : (columns : List Column) (line : ℕ) (ls : List Line) (fault : Fault) → complete ls ≡ true → first-wrong line 1 (first ls) ≡ Some fault → below columns line ls ≡ rowless (Some fault)
 below-wrong columns line [] fault whole h = absurd (both-ways false refl whole)
 below-wrong columns line (l ∷ []) fault whole h = absurd (both-ways false refl whole)
 below-wrong columns line (l ∷ m ∷ ls) fault whole h =
-    let row : Row = rowOf columns line (map value l) in
-    ap (λ (o : Option Fault). led (orOther o (orOther (fieldCount line l) (rateFault row))) row (below columns (line + 1) (m ∷ ls))) h
+    let row : Row = row-of columns line (map value l) in
+    ap (λ (o : Option Fault). led (orOther o (orOther (count-fault line l) (rate-fault row))) row (below columns (line + 1) (m ∷ ls))) h
 
 -- the line that `was` stands before is being read, and these are its values so far
 pub record Valuing (was is : Reader) (values : Values) : Type 0 where
@@ -60,7 +61,7 @@ pub record Valuing (was is : Reader) (values : Values) : Type 0 where
   pub begun : is .place ≡ 0 → unread is ≡ unread was
   pub whole : 0 < is .place → complete (unread was) ≡ true
   pub rest : later (unread was) ≡ later (unread is)
-  pub right : firstWrong (was .line) 1 (first (unread was)) ≡ firstWrong (was .line) (is .place + 1) (first (unread is))
+  pub right : first-wrong (was .line) 1 (first (unread was)) ≡ first-wrong (was .line) (is .place + 1) (first (unread is))
   pub counted : values .count ≡ is .place
   pub all : length (first (unread was)) ≡ is .place + length (first (unread is))
   pub five : length (values .at) ≡ 5
@@ -75,7 +76,7 @@ valuing-none was values start none five =
       begun = λ _. refl;
       whole = λ h. absurd (omega (arith, start .no-place));
       rest = refl;
-      right = ap (λ p. firstWrong (was .line) (p + 1) (first (unread was))) (sym (start .no-place));
+      right = ap (λ p. first-wrong (was .line) (p + 1) (first (unread was))) (sym (start .no-place));
       counted = none ∙ sym (start .no-place);
       all = omega (arith, start .no-place);
       five = five;
@@ -101,14 +102,14 @@ module _ (was mid is : Reader) (values : Values) (h : Valuing was mid values) wh
         (λ none. ap complete (sym (h .begun (omega arith)) ∙ read .text) ∙ complete-field f (unread is) ∙ on)
         (cases-lt 0 (mid .place))
 
-    judged : firstWrong (was .line) 1 (first (unread was)) ≡ orOther (located line place (wrong f)) (firstWrong (was .line) (mid .place + 1 + 1) (first (unread is)))
+    judged : first-wrong (was .line) 1 (first (unread was)) ≡ orOther (located line place (wrong f)) (first-wrong (was .line) (mid .place + 1 + 1) (first (unread is)))
     judged =
-        h .right ∙ ap (firstWrong (was .line) (mid .place + 1)) fields ∙ (λ i. orOther (located (sym (read .line-is ∙ h .line) i) (sym (read .place-is) i) (wrong f)) (firstWrong (was .line) (mid .place + 1 + 1) (first (unread is))))
+        h .right ∙ ap (first-wrong (was .line) (mid .place + 1)) fields ∙ (λ i. orOther (located (sym (read .line-is ∙ h .line) i) (sym (read .place-is) i) (wrong f)) (first-wrong (was .line) (mid .place + 1 + 1) (first (unread is))))
 
-    pub valuing-wrong : (fault : Fault) → located line place (wrong f) ≡ Some fault → (columns : List Column) → below columns (was .line) (unread was) ≡ ended (Some fault)
+    pub valuing-wrong : (fault : Fault) → located line place (wrong f) ≡ Some fault → (columns : List Column) → below columns (was .line) (unread was) ≡ rowless (Some fault)
     valuing-wrong fault bad columns =
         below-wrong columns (was .line) (unread was) fault whole-line
-        (judged ∙ ap (λ o. orOther o (firstWrong (was .line) (mid .place + 1 + 1) (first (unread is)))) bad)
+        (judged ∙ ap (λ o. orOther o (first-wrong (was .line) (mid .place + 1 + 1) (first (unread is)))) bad)
 
     pub valuing-more : (v : ℕ) (next : Values) → wrong f ≡ None → v ≡ value f → length (next .at) ≡ 5 → next .count ≡ values .count + 1 → (values .count < 5 → next .at ≡ set (values .at) (values .count) v) → Valuing was is next
     valuing-more v next good is-value five count keeps =
@@ -119,7 +120,7 @@ module _ (was mid is : Reader) (values : Values) (h : Valuing was mid values) wh
           whole = λ _. whole-line;
           rest = lines-after;
           right =
-              judged ∙ ap (λ o. orOther (located line place o) (firstWrong (was .line) (mid .place + 1 + 1) (first (unread is)))) good ∙ ap (λ p. firstWrong (was .line) (p + 1) (first (unread is))) (sym (read .next-place));
+              judged ∙ ap (λ o. orOther (located line place o) (first-wrong (was .line) (mid .place + 1 + 1) (first (unread is)))) good ∙ ap (λ p. first-wrong (was .line) (p + 1) (first (unread is))) (sym (read .next-place));
           counted = omega (arith, count, h .counted, read .next-place);
           all = omega (arith, h .all, ap length fields, read .next-place);
           five = five;
@@ -140,7 +141,7 @@ module _ (was mid is : Reader) (values : Values) (h : Valuing was mid values) wh
       record {
         fields = first (unread was);
         text = whole-first (unread was) (h .whole (end .some-place)) ∙ ap (λ ls. first (unread was) ∷ ls) (h .rest ∙ ap later (end .text));
-        right = h .right ∙ ap (firstWrong (was .line) (mid .place + 1)) none;
+        right = h .right ∙ ap (first-wrong (was .line) (mid .place + 1)) none;
         counted = sym all;
         kept = λ five.
             sym (h .kept (omega arith) ∙ ap (λ l. take (values .count) (values .at) ++ map value l) none ∙ append-nil (take (values .count) (values .at)) ∙ take-all (values .count) (values .at) (omega (arith, h .five)));
@@ -159,6 +160,6 @@ module _ (was mid is : Reader) (values : Values) (h : Valuing was mid values) wh
       (cases-lt 0 (mid .place)) in
       record { last = end .last; text = sym (h .begun none) ∙ end .text; is = ap (λ n. final n (end .last)) (sym (h .line)) ∙ end .is }
 
-  pub valuing-last : (fault : Fault) → Last (mid .line) (unread mid) (Some fault) → (columns : List Column) → below columns (was .line) (unread was) ≡ ended (Some fault)
+  pub valuing-last : (fault : Fault) → Last (mid .line) (unread mid) (Some fault) → (columns : List Column) → below columns (was .line) (unread was) ≡ rowless (Some fault)
   valuing-last fault end columns =
-      let last = valuing-end (Some fault) end in ap (below columns (was .line)) (last .text) ∙ ap ended (last .is)
+      let last = valuing-end (Some fault) end in ap (below columns (was .line)) (last .text) ∙ ap rowless (last .is)

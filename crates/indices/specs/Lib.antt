@@ -1,6 +1,7 @@
 pub mod Fault
 pub mod Byte
 pub mod Text
+pub mod End
 pub mod Reader
 pub mod Value
 pub mod Names

@@ -1,35 +1,23 @@
 -- What a reader has still to read, and what each of its tokens says of that. Assumes nothing.
-use mathlib.Core.Bool.{Bool, true, false, cond, _&&_}
+use mathlib.Core.Bool.{true, false, cond}
 use mathlib.Core.List.{List, [], _∷_}
 use mathlib.Core.Path.{_≡_}
 use Prim.Native.Nat.{ℕ, _+_, _^_, _<_}
-use lib.Dec.{ltb}
 use lib.ListN.{length}
 use Rattle.std.specs.declared.option.Option.{Option}
 use Rattle.std.specs.declared.option.Option.the-variants.{Some, None}
 use Rattle.std.specs.declared.result.Result.{Result}
 use Rattle.std.specs.declared.result.Result.the-variants.{Ok, Err}
 use Rattle.indices.specs.declared.fault.Fault.{Fault}
-use Rattle.indices.specs.declared.fault.Reason.the-variants.{NoLineFeed}
 use Rattle.indices.specs.declared.text.Reader.{Reader}
 use Rattle.indices.specs.declared.text.Token.{Token}
 use Rattle.indices.specs.declared.text.Token.the-variants.{Field, LineEnd, SheetEnd}
-use Rattle.indices.specs.Text.{Line, withField, lines, complete}
+use Rattle.indices.specs.End.{final}
+use Rattle.indices.specs.Text.{Line, with-field, lines, complete}
 
 -- as lines of fields; the first is what is left of the line that is being read
 abbrev pub unread : Reader → List Line
 unread r = cond (r .ended) ([] ∷ lines (r .rest .now)) (lines (r .rest .now))
-
--- nothing: one empty field
-abbrev pub blank : Line → Bool
-blank [] = false
-blank ([] ∷ []) = true
-blank ([] ∷ g ∷ fs) = false
-blank ((b ∷ f) ∷ fs) = false
-
--- what is wrong with the line that follows the last line feed: from line 2 on, nothing if it is blank
-abbrev pub final : ℕ → Line → Option Fault
-final line l = cond (ltb 1 line && blank l) None (Some (record { reason = NoLineFeed; line = line; field = 0 }))
 
 -- once a field is read, the line is known to have its line feed
 pub record Ready (r : Reader) : Type 0 where
@@ -38,7 +26,7 @@ pub record Ready (r : Reader) : Type 0 where
   pub whole : 0 < r .place → complete (unread r) ≡ true
 
 pub record FieldRead (was : Reader) (bytes : List ℕ) (line place : ℕ) (is : Reader) : Type 0 where
-  pub text : unread was ≡ withField bytes (unread is)
+  pub text : unread was ≡ with-field bytes (unread is)
   pub line-is : line ≡ was .line
   pub place-is : place ≡ was .place + 1
   pub same-line : is .line ≡ was .line

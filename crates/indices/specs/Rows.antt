@@ -13,7 +13,7 @@ use Rattle.indices.specs.declared.text.Reader.{Reader}
 use Rattle.indices.specs.Reader.{unread, AtStart, Last}
 use Rattle.indices.specs.Sheet.{Sheet, below, text}
 use Rattle.indices.specs.Text.{Line, lines}
-use Rattle.indices.specs.Value.{value, firstWrong}
+use Rattle.indices.specs.Value.{value, first-wrong}
 
 -- line 1 holds these columns, and the lines below it are left
 pub record NamesRead (was : Reader) (columns : List Column) (is : Reader) : Type 0 where
@@ -26,7 +26,7 @@ pub record NamesRead (was : Reader) (columns : List Column) (is : Reader) : Type
 pub record ValuesRead (was : Reader) (values : Values) (is : Reader) : Type 0 where
   pub fields : Line
   pub text : unread was ≡ fields ∷ unread is
-  pub right : firstWrong (was .line) 1 fields ≡ None
+  pub right : first-wrong (was .line) 1 fields ≡ None
   pub counted : values .count ≡ length fields
   pub kept : values .count ≡ 5 → values .at ≡ map value fields
   pub start : AtStart is

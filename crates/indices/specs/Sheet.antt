@@ -14,50 +14,50 @@ use Rattle.indices.specs.declared.fault.Reason.the-variants.{TooLong, Names, F
 use Rattle.indices.specs.declared.names.Column.{Column}
 use Rattle.indices.specs.declared.row.Row.{Row}
 use Rattle.indices.specs.Names.{order}
-use Rattle.indices.specs.Reader.{final}
-use Rattle.indices.specs.Row.{rowOf, rates}
+use Rattle.indices.specs.End.{final}
+use Rattle.indices.specs.Row.{row-of, rates}
 use Rattle.indices.specs.Text.{Line, lines}
-use Rattle.indices.specs.Value.{value, firstWrong}
+use Rattle.indices.specs.Value.{value, first-wrong}
 
 pub record Sheet : Type 0 where
   pub rows : List Row
   pub fault : Option Fault
 
 -- no row, and perhaps a fault
-abbrev pub ended : Option Fault → Sheet
-ended fault = record { rows = []; fault = fault }
+abbrev pub rowless : Option Fault → Sheet
+rowless fault = record { rows = []; fault = fault }
 
-abbrev pub fieldCount : ℕ → Line → Option Fault
-fieldCount line fields = cond (eqb (length fields) 5) None (Some (record { reason = FieldCount; line = line; field = 0 }))
+abbrev pub count-fault : ℕ → Line → Option Fault
+count-fault line fields = cond (eqb (length fields) 5) None (Some (record { reason = FieldCount; line = line; field = 0 }))
 
-abbrev pub rateFault : Row → Option Fault
-rateFault row = cond (rates row) None (Some (record { reason = Rates; line = row .line; field = 0 }))
+abbrev pub rate-fault : Row → Option Fault
+rate-fault row = cond (rates row) None (Some (record { reason = Rates; line = row .line; field = 0 }))
 
 -- the first fault of a line of values
-abbrev pub lineFault : ℕ → Line → Row → Option Fault
-lineFault line fields row = orOther (firstWrong line 1 fields) (orOther (fieldCount line fields) (rateFault row))
+abbrev pub line-fault : ℕ → Line → Row → Option Fault
+line-fault line fields row = orOther (first-wrong line 1 fields) (orOther (count-fault line fields) (rate-fault row))
 
 -- a row in front, unless its line has a fault
 abbrev pub led : Option Fault → Row → Sheet → Sheet
 led None row later = record { rows = row ∷ later .rows; fault = later .fault }
-led (Some fault) row later = ended (Some fault)
+led (Some fault) row later = rowless (Some fault)
 
 -- the lines below line 1, from a line on; the last is what follows the last line feed
 abbrev pub below : List Column → ℕ → List Line → Sheet
-below columns line [] = ended None
-below columns line (l ∷ []) = ended (final line l)
-below columns line (l ∷ m ∷ ls) = let row : Row = rowOf columns line (map value l) in led (lineFault line l row) row (below columns (line + 1) (m ∷ ls))
+below columns line [] = rowless None
+below columns line (l ∷ []) = rowless (final line l)
+below columns line (l ∷ m ∷ ls) = let row : Row = row-of columns line (map value l) in led (line-fault line l row) row (below columns (line + 1) (m ∷ ls))
 
 -- the lines below line 1, with what line 1 gives: the columns, or the place of what is wrong there
 abbrev pub headed : Result (List Column) ℕ → List Line → Sheet
 headed (Ok columns) ls = below columns 2 ls
-headed (Err place) ls = ended (Some (record { reason = Names; line = 1; field = place }))
+headed (Err place) ls = rowless (Some (record { reason = Names; line = 1; field = place }))
 
 abbrev pub text : List Line → Sheet
-text [] = ended None
-text (l ∷ []) = ended (final 1 l)
+text [] = rowless None
+text (l ∷ []) = rowless (final 1 l)
 text (l ∷ m ∷ ls) = headed (order [] 1 l) (m ∷ ls)
 
 -- a sheet has at most 65,535 bytes
 abbrev pub sheet : List ℕ → Sheet
-sheet bytes = cond (ltb 65535 (length bytes)) (ended (Some (record { reason = TooLong; line = 0; field = 0 }))) (text (lines bytes))
+sheet bytes = cond (ltb 65535 (length bytes)) (rowless (Some (record { reason = TooLong; line = 0; field = 0 }))) (text (lines bytes))

@@ -10,22 +10,22 @@ abbrev pub Line : Type 0
 Line = List (List ℕ)
 
 -- the lines with one more field in front of the first; a text has at least one line
-abbrev pub withField : List ℕ → List Line → List Line
-withField f [] = []
-withField f (l ∷ ls) = (f ∷ l) ∷ ls
+abbrev pub with-field : List ℕ → List Line → List Line
+with-field f [] = []
+with-field f (l ∷ ls) = (f ∷ l) ∷ ls
 
 -- the lines with one more byte in front of the first field; a line has at least one field
-abbrev pub withByte : ℕ → List Line → List Line
-withByte b [] = []
-withByte b ([] ∷ ls) = [] ∷ ls
-withByte b ((f ∷ fs) ∷ ls) = ((b ∷ f) ∷ fs) ∷ ls
+abbrev pub with-byte : ℕ → List Line → List Line
+with-byte b [] = []
+with-byte b ([] ∷ ls) = [] ∷ ls
+with-byte b ((f ∷ fs) ∷ ls) = ((b ∷ f) ∷ fs) ∷ ls
 
 -- the lines with one more byte in front of the text
 abbrev pub begun : Kind → ℕ → List Line → List Line
-begun Comma b ls = withField [] ls
+begun Comma b ls = with-field [] ls
 begun LineFeed b ls = ([] ∷ []) ∷ ls
-begun (Digit d) b ls = withByte b ls
-begun Other b ls = withByte b ls
+begun (Digit d) b ls = with-byte b ls
+begun Other b ls = with-byte b ls
 
 -- the last line is what follows the last line feed: one empty field where nothing does
 abbrev pub lines : List ℕ → List Line

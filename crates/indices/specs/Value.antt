@@ -39,6 +39,6 @@ located line place None = None
 located line place (Some reason) = Some (record { reason = reason; line = line; field = place })
 
 -- the fields are judged one by one from the left; place is that of the first
-abbrev pub firstWrong : ℕ → ℕ → Line → Option Fault
-firstWrong line place [] = None
-firstWrong line place (f ∷ fs) = orOther (located line place (wrong f)) (firstWrong line (place + 1) fs)
+abbrev pub first-wrong : ℕ → ℕ → Line → Option Fault
+first-wrong line place [] = None
+first-wrong line place (f ∷ fs) = orOther (located line place (wrong f)) (first-wrong line (place + 1) fs)

@@ -5,10 +5,10 @@ ghost use Prim.Native.Nat.{_+_, _^_, _<_};
 ghost use lib.ListN.{length, set};
 ghost use Rattle.std.specs.declared.option.Option.the-variants.{Some};
 ghost use Rattle.std.specs.declared.result.Result.the-variants.{Ok, Err};
-ghost use Rattle.indices.specs.declared.names.Column.{Column as Names};
+ghost use Rattle.indices.specs.declared.names.Column.{Column};
 ghost use Rattle.indices.specs.Reader.{unread, AtStart};
 ghost use Rattle.indices.specs.Rows.{LineRead};
-ghost use Rattle.indices.specs.Sheet.{ended, below};
+ghost use Rattle.indices.specs.Sheet.{rowless, below};
 use crate::fault::Fault;
 use crate::names::COLUMNS;
 use crate::text::Reader;
@@ -42,7 +42,7 @@ impl Values {
 // The values of the next line, or none at the end of the sheet.
 pub fn read_values(reader: &mut Reader) -> Result<Option<Values>, Fault>
     requires { ⌜ AtStart (now reader) ⌝ }
-    ensures { λ r. ⌜ elim r [ Ok values ↦ LineRead (now (reader .entry)) values (now (reader .exit)) | Err fault ↦ ((columns : List Names) → below columns (now (reader .entry) .line) (unread (now (reader .entry))) ≡ ended (Some fault)) ] ⌝ }
+    ensures { λ r. ⌜ elim r [ Ok values ↦ LineRead (now (reader .entry)) values (now (reader .exit)) | Err fault ↦ ((columns : List Column) → below columns (now (reader .entry) .line) (unread (now (reader .entry))) ≡ rowless (Some fault)) ] ⌝ }
 {
     let mut values = Values {
         at: [0; COLUMNS],

@@ -7,7 +7,7 @@ ghost use Rattle.indices.specs.declared.fault.Reason.the-variants.{Names};
 ghost use Rattle.indices.specs.Names.{column, among, fresh};
 ghost use Rattle.indices.specs.Reader.{unread, AtStart};
 ghost use Rattle.indices.specs.Rows.{NamesRead};
-ghost use Rattle.indices.specs.Sheet.{ended, text};
+ghost use Rattle.indices.specs.Sheet.{rowless, text};
 use crate::fault::Fault;
 use crate::fault::Reason;
 use crate::text::Reader;
@@ -83,7 +83,7 @@ fn wrong_name(place: u32) -> Fault
 pub fn read_names(reader: &mut Reader) -> Result<[Column; COLUMNS], Fault>
     requires start { ⌜ AtStart (now reader) ⌝ }
     requires line { ⌜ now reader .line ≡ 1 ⌝ }
-    ensures { λ r. ⌜ elim r [ Ok columns ↦ NamesRead (now (reader .entry)) columns (now (reader .exit)) | Err fault ↦ text (unread (now (reader .entry))) ≡ ended (Some fault) ] ⌝ }
+    ensures { λ r. ⌜ elim r [ Ok columns ↦ NamesRead (now (reader .entry)) columns (now (reader .exit)) | Err fault ↦ text (unread (now (reader .entry))) ≡ rowless (Some fault) ] ⌝ }
 {
     let mut columns = [Column::Id; COLUMNS];
     let mut count = 0;

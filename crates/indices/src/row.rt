@@ -3,7 +3,7 @@ ghost use mathlib.Core.List.{_++_};
 ghost use mathlib.Core.Path.{_≡_};
 ghost use Prim.Native.Nat.{_+_, _<_, _≤_};
 ghost use lib.ListN.{length, take};
-ghost use Rattle.indices.specs.Row.{under, rowOf, rates, stateIf, states};
+ghost use Rattle.indices.specs.Row.{under, row-of, rates, state-if, states};
 use crate::names::COLUMNS;
 use crate::names::Column;
 use crate::names::ColumnPartialEq;
@@ -57,7 +57,7 @@ impl Row {
     pub fn new(line: u32, columns: &[Column; COLUMNS], values: &[u32; COLUMNS]) -> Row
         requires columns { ⌜ length (now columns) ≡ 5 ⌝ }
         requires values { ⌜ length (now values) ≡ 5 ⌝ }
-        ensures { λ r. ⌜ r ≡ rowOf (now (columns .entry)) line (now (values .entry)) ⌝ }
+        ensures { λ r. ⌜ r ≡ row-of (now (columns .entry)) line (now (values .entry)) ⌝ }
     {
         Row {
             line,
@@ -111,7 +111,7 @@ impl States {
     fn add_if(&mut self, decides: u32, state: State)
         requires room { ⌜ now self .count < 3 ⌝ }
         requires length { ⌜ length (now self .at) ≡ 3 ⌝ }
-        ensures states { λ _. ⌜ take (now (self .exit) .count) (now (self .exit) .at) ≡ take (now (self .entry) .count) (now (self .entry) .at) ++ stateIf decides (state .outage) (state .weight) ⌝ }
+        ensures states { λ _. ⌜ take (now (self .exit) .count) (now (self .exit) .at) ≡ take (now (self .entry) .count) (now (self .entry) .at) ++ state-if decides (state .outage) (state .weight) ⌝ }
         ensures more { λ _. ⌜ now (self .entry) .count ≤ now (self .exit) .count ⌝ }
         ensures one { λ _. ⌜ now (self .exit) .count ≤ now (self .entry) .count + 1 ⌝ }
         ensures length { λ _. ⌜ length (now (self .exit) .at) ≡ 3 ⌝ }

@@ -3,7 +3,7 @@ ghost use mathlib.Core.Path.{_≡_};
 ghost use Rattle.std.specs.declared.option.Option.the-variants.{Some, None};
 ghost use Rattle.std.specs.declared.result.Result.the-variants.{Ok, Err};
 ghost use Rattle.indices.specs.Rows.{remaining, Standing, RowRead};
-ghost use Rattle.indices.specs.Sheet.{ended, sheet};
+ghost use Rattle.indices.specs.Sheet.{rowless, sheet};
 use crate::fault::Fault;
 use crate::fault::Reason;
 use crate::line::read_values;
@@ -24,7 +24,7 @@ pub struct Rows<'a> {
 
 impl<'a> Rows<'a> {
     pub fn open(bytes: &'a [u8]) -> Result<Rows<'a>, Fault>
-        ensures { λ r. ⌜ elim r [ Ok rows ↦ (sheet (now (bytes .entry)) ≡ remaining rows) × Standing rows | Err fault ↦ sheet (now (bytes .entry)) ≡ ended (Some fault) ] ⌝ }
+        ensures { λ r. ⌜ elim r [ Ok rows ↦ (sheet (now (bytes .entry)) ≡ remaining rows) × Standing rows | Err fault ↦ sheet (now (bytes .entry)) ≡ rowless (Some fault) ] ⌝ }
     {
         if bytes.len() > MOST_BYTES {
             return Err(Fault {
@@ -41,7 +41,7 @@ impl<'a> Rows<'a> {
     // The next row, or none where the sheet ends without a fault.
     pub fn next_row(&mut self) -> Result<Option<Row>, Fault>
         requires { ⌜ Standing (now self) ⌝ }
-        ensures { λ r. ⌜ elim r [ Ok o ↦ elim o [ Some row ↦ RowRead (now (self .entry)) row (now (self .exit)) | None ↦ remaining (now (self .entry)) ≡ ended None ] | Err fault ↦ remaining (now (self .entry)) ≡ ended (Some fault) ] ⌝ }
+        ensures { λ r. ⌜ elim r [ Ok o ↦ elim o [ Some row ↦ RowRead (now (self .entry)) row (now (self .exit)) | None ↦ remaining (now (self .entry)) ≡ rowless None ] | Err fault ↦ remaining (now (self .entry)) ≡ rowless (Some fault) ] ⌝ }
     {
         let line = self.reader.line;
         let Some(values) = read_values(&mut self.reader)? else {

@@ -1,6 +1,6 @@
-use mathlib.Core.Path.{_≡_, refl, sym, ap, subst, _∙_}
+use mathlib.Core.Path.{subst}
 use Rattle.std.specs.declared.result.Result.the-variants.{Ok}
-use Rattle.indices.specs.Reader.{FieldRead, LineEnded, Reads}
+use Rattle.indices.specs.Reader.{Reads}
 use Rattle.indices.proofs.Valuing.{valuing-more, valuing-over}
 use Rattle.indices.proofs.line.read_values.Needs as need
 

@@ -10,7 +10,7 @@ use Rattle.fleet.specs.Fleets.{ledger-of}
 use Rattle.indices.specs.Fault.{report}
 use Rattle.indices.specs.Intake.{Took, told, taken-sheet}
 use Rattle.indices.specs.Rows.{remaining, RowRead}
-use Rattle.indices.proofs.Taking.{Going, taken-ended, taken-accepted, taken-refused, took, some-row, no-row}
+use Rattle.indices.proofs.Taking.{Going, taken-rowless, taken-accepted, taken-refused, took, some-row, no-row}
 use Rattle.indices.proofs.unit_intake.take_rows.Given as given
 use Rattle.indices.proofs.unit_intake.take_rows.Needs as need
 use Rattle.indices.proofs.unit_intake.take_rows.Needs.{In-Some}
@@ -33,7 +33,7 @@ pub returns-in-Break-row : need.returns-in-Break-row
 returns-in-Break-row g c =
     let p = err-from-errBy (c .from-residual .result) (c .from-residual .ensures .1) in
     rw (p .1, p .2)
-    (took _ _ _ _ (sym (taken-ended _ _ _ (ledger-of (c .loop-row .fleet)) (c .loop-row .added) (c .in-Break-row .ensures tt)) ∙ c .loop-row .inv .same))
+    (took _ _ _ _ (sym (taken-rowless _ _ _ (ledger-of (c .loop-row .fleet)) (c .loop-row .added) (c .in-Break-row .ensures tt)) ∙ c .loop-row .inv .same))
 
 pub returns-in-Break-take-row : need.returns-in-Break-take-row
 returns-in-Break-take-row g c =
@@ -61,4 +61,4 @@ loop-row-again g c =
 pub returns : need.returns
 returns g c =
     took _ _ _ _
-    (sym (taken-ended _ _ _ (ledger-of (c .loop-row .fleet)) (c .loop-row .added) (no-row (c .loop-row .rows) (c .next-row .last .self) (c .in-Continue-row .field-0) (c .in-rest .is) (c .in-Continue-row .ensures tt))) ∙ c .loop-row .inv .same)
+    (sym (taken-rowless _ _ _ (ledger-of (c .loop-row .fleet)) (c .loop-row .added) (no-row (c .loop-row .rows) (c .next-row .last .self) (c .in-Continue-row .field-0) (c .in-rest .is) (c .in-Continue-row .ensures tt))) ∙ c .loop-row .inv .same)

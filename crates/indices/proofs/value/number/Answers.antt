@@ -1,10 +1,9 @@
 use mathlib.Core.Path.{sym, ap, _∙_}
-use Prim.Native.Nat.{_+_, _*_, _^_, _<_}
 use native.Mathlib.Omega.{arith}
-use lib.ListN.{length, getD}
+use lib.ListN.{getD}
 use Rattle.std.proofs.shelf.Lists.{take-all}
 use Rattle.std.proofs.shelf.Tests.{both-ways}
-use Rattle.indices.specs.Value.{digit, value}
+use Rattle.indices.specs.Value.{value}
 use Rattle.indices.proofs.Digits.{digit-value, not-digit, digit-at, value-more, below-more, below-seven}
 use Rattle.indices.proofs.value.number.Needs as need
 
