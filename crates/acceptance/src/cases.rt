@@ -39,7 +39,7 @@ pub const FIVE: [State; 3] = [
 ];
 
 // The number with which a fleet refuses a unit, or 0 where it takes it.
-pub fn refused(fleet: &mut Fleet, identity: u32, capacity: u32, states: &[State]) -> u8 {
+pub(crate) fn refused(fleet: &mut Fleet, identity: u32, capacity: u32, states: &[State]) -> u8 {
     match fleet.add(&Nearest, identity, capacity, states) {
         Ok(_) => 0,
         Err(refusal) => refusal.number(),
@@ -47,7 +47,7 @@ pub fn refused(fleet: &mut Fleet, identity: u32, capacity: u32, states: &[State]
 }
 
 // The same of an open fleet.
-pub fn refused_by_open(identity: u32, capacity: u32, states: &[State]) -> u8 {
+pub(crate) fn refused_by_open(identity: u32, capacity: u32, states: &[State]) -> u8 {
     let mut fleet = Fleet::open();
     refused(&mut fleet, identity, capacity, states)
 }

@@ -54,7 +54,11 @@ impl UnitRecord {
     };
 
     // A unit in service, if identity, capacity and states keep the rules.
-    pub fn checked(identity: u32, capacity: u32, states: &[State]) -> Result<UnitRecord, Refusal>
+    pub(crate) fn checked(
+        identity: u32,
+        capacity: u32,
+        states: &[State],
+    ) -> Result<UnitRecord, Refusal>
         ensures { λ r. ⌜ Outcome (unit-refusal identity capacity (now (states .entry))) r (λ u. unit-of u ≡ new-unit identity capacity (now (states .entry))) ⌝ }
     {
         if identity < 1 || identity > IDENTITIES {
@@ -84,7 +88,7 @@ impl UnitRecord {
     }
 
     // The unit's states. The count is held to the array's length, so that any record has some.
-    pub fn states(&self) -> &[State]
+    pub(crate) fn states(&self) -> &[State]
         ensures { λ r. ⌜ now r ≡ take (now (self .entry) .count) (now (self .entry) .states) ⌝ }
     {
         let count = self.count.min(STATES);
@@ -92,7 +96,7 @@ impl UnitRecord {
     }
 
     // The outage of the last state, which is the greatest.
-    pub fn last_outage(&self) -> u32
+    pub(crate) fn last_outage(&self) -> u32
         ensures { λ r. ⌜ r ≡ last-outage (take (now (self .entry) .count) (now (self .entry) .states)) ⌝ }
     {
         match self.states().last() {
@@ -101,7 +105,7 @@ impl UnitRecord {
         }
     }
 
-    pub fn share(&self, which: Share) -> u32
+    pub(crate) fn share(&self, which: Share) -> u32
         ensures { λ r. ⌜ r ≡ share which (unit-of (now (self .entry))) ⌝ }
     {
         match which {
@@ -112,7 +116,7 @@ impl UnitRecord {
     }
 
     // The capacity and the standing, 1 in service and 0 out.
-    pub fn plain(&self) -> (u32, u32)
+    pub(crate) fn plain(&self) -> (u32, u32)
         ensures { λ r. ⌜ r ≡ plain-of (unit-of (now (self .entry))) ⌝ }
     {
         (self.capacity, self.while_serving(1))

@@ -51,7 +51,7 @@ fn starts(state: State) -> bool
 }
 
 // Whether the states keep every rule for a unit of this capacity.
-pub fn lawful(capacity: u32, states: &[State]) -> bool
+pub(crate) fn lawful(capacity: u32, states: &[State]) -> bool
     ensures { λ r. ⌜ r ≡ lawful-states capacity (now (states .entry)) ⌝ }
 {
     let [first, rest @ ..] = states else {

@@ -11,7 +11,7 @@ pub enum Kind {
     Other,
 }
 
-pub fn kind_of(b: u8) -> Kind
+pub(crate) fn kind_of(b: u8) -> Kind
     ensures { λ r. ⌜ r ≡ kind b ⌝ }
 {
     match b as char {

@@ -40,7 +40,7 @@ impl Values {
 }
 
 // The values of the next line, or none at the end of the sheet.
-pub fn read_values(reader: &mut Reader) -> Result<Option<Values>, Fault>
+pub(crate) fn read_values(reader: &mut Reader) -> Result<Option<Values>, Fault>
     requires { ⌜ AtStart (now reader) ⌝ }
     ensures { λ r. ⌜ elim r [ Ok values ↦ LineRead (now (reader .entry)) values (now (reader .exit)) | Err fault ↦ ((columns : List Column) → below columns (now (reader .entry) .line) (unread (now (reader .entry))) ≡ rowless (Some fault)) ] ⌝ }
 {

@@ -80,7 +80,7 @@ fn wrong_name(place: u32) -> Fault
 }
 
 // Line 1: the columns in their order.
-pub fn read_names(reader: &mut Reader) -> Result<[Column; COLUMNS], Fault>
+pub(crate) fn read_names(reader: &mut Reader) -> Result<[Column; COLUMNS], Fault>
     requires start { ⌜ AtStart (now reader) ⌝ }
     requires line { ⌜ now reader .line ≡ 1 ⌝ }
     ensures { λ r. ⌜ elim r [ Ok columns ↦ NamesRead (now (reader .entry)) columns (now (reader .exit)) | Err fault ↦ text (unread (now (reader .entry))) ≡ rowless (Some fault) ] ⌝ }

@@ -54,7 +54,7 @@ fn value_under(c: Column, columns: &[Column], values: &[u32]) -> u32
 
 impl Row {
     // The row that a line's values give, in the order of the columns.
-    pub fn new(line: u32, columns: &[Column; COLUMNS], values: &[u32; COLUMNS]) -> Row
+    pub(crate) fn new(line: u32, columns: &[Column; COLUMNS], values: &[u32; COLUMNS]) -> Row
         requires columns { ⌜ length (now columns) ≡ 5 ⌝ }
         requires values { ⌜ length (now values) ≡ 5 ⌝ }
         ensures { λ r. ⌜ r ≡ row-of (now (columns .entry)) line (now (values .entry)) ⌝ }
@@ -70,14 +70,14 @@ impl Row {
     }
 
     // Whether the rates can be those of a unit.
-    pub fn has_rates(&self) -> bool
+    pub(crate) fn has_rates(&self) -> bool
         ensures { λ r. ⌜ r ≡ rates (now (self .entry)) ⌝ }
     {
         let sum = self.rate as u64 + self.prate as u64;
         sum <= MOST_RATES && (self.part == 0) == (self.prate == 0)
     }
 
-    pub fn states(&self) -> States
+    pub(crate) fn states(&self) -> States
         requires { ⌜ now self .rate + now self .prate ≤ 999999 ⌝ }
         ensures states { λ r. ⌜ take (r .count) (r .at) ≡ states (now (self .entry)) ⌝ }
         ensures some { λ r. ⌜ 1 ≤ r .count ⌝ }

@@ -23,7 +23,7 @@ pub struct Rows<'a> {
 }
 
 impl<'a> Rows<'a> {
-    pub fn open(bytes: &'a [u8]) -> Result<Rows<'a>, Fault>
+    pub(crate) fn open(bytes: &'a [u8]) -> Result<Rows<'a>, Fault>
         ensures { λ r. ⌜ elim r [ Ok rows ↦ (sheet (now (bytes .entry)) ≡ remaining rows) × Standing rows | Err fault ↦ sheet (now (bytes .entry)) ≡ rowless (Some fault) ] ⌝ }
     {
         if bytes.len() > MOST_BYTES {
@@ -39,7 +39,7 @@ impl<'a> Rows<'a> {
     }
 
     // The next row, or none where the sheet ends without a fault.
-    pub fn next_row(&mut self) -> Result<Option<Row>, Fault>
+    pub(crate) fn next_row(&mut self) -> Result<Option<Row>, Fault>
         requires { ⌜ Standing (now self) ⌝ }
         ensures { λ r. ⌜ elim r [ Ok o ↦ elim o [ Some row ↦ RowRead (now (self .entry)) row (now (self .exit)) | None ↦ remaining (now (self .entry)) ≡ rowless None ] | Err fault ↦ remaining (now (self .entry)) ≡ rowless (Some fault) ] ⌝ }
     {

@@ -72,7 +72,7 @@ pub enum Token<'a> {
 
 impl<'a> Reader<'a> {
     // At the start of a sheet, which is short enough to count its lines and fields.
-    pub fn new(sheet: &'a [u8]) -> Self
+    pub(crate) fn new(sheet: &'a [u8]) -> Self
         requires { ⌜ length (now sheet) ≤ 65535 ⌝ }
         ensures text { λ r. ⌜ unread r ≡ lines (now (sheet .entry)) ⌝ }
         ensures start { λ r. ⌜ AtStart r ⌝ }
@@ -105,7 +105,7 @@ impl<'a> Reader<'a> {
         }
     }
 
-    pub fn token(&mut self) -> Result<Token<'a>, Fault>
+    pub(crate) fn token(&mut self) -> Result<Token<'a>, Fault>
         requires { ⌜ Ready (now self) ⌝ }
         ensures { λ r. ⌜ Reads (now (self .entry)) r (now (self .exit)) ⌝ }
     {

@@ -41,7 +41,7 @@ fn number(bytes: &[u8]) -> u32
 }
 
 // The value of a field that stands at a line and a place.
-pub fn parse(bytes: &[u8], line: u32, place: u32) -> Result<u32, Fault>
+pub(crate) fn parse(bytes: &[u8], line: u32, place: u32) -> Result<u32, Fault>
     ensures { λ r. ⌜ elim r [ Ok v ↦ (wrong (now (bytes .entry)) ≡ None) × (v ≡ value (now (bytes .entry))) | Err f ↦ located line place (wrong (now (bytes .entry))) ≡ Some f ] ⌝ }
 {
     let reason = if !all_digits(bytes) {

@@ -61,3 +61,21 @@ impl Fleet {
         Ok(tolerance)
     }
 }
+
+#[cfg(test)]
+mod tests {
+    use super::raised;
+    use crate::refusal::Refusal;
+    use crate::refusal::RefusalDebug;
+    use crate::refusal::RefusalPartialEq;
+    use std::test::*;
+
+    // No fleet of 64 units comes to this tolerance by adding alone.
+    #[test]
+    fn the_tolerance_stops_at_a_million() -> Result<(), Fail> {
+        check_eq(raised(0), Ok(1))?;
+        check_eq(raised(999_999), Ok(1_000_000))?;
+        check_eq(raised(1_000_000), Err(Refusal::Tolerance))?;
+        check_eq(Refusal::Tolerance.number(), 10)
+    }
+}

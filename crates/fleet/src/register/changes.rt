@@ -12,7 +12,7 @@ use super::UNITS;
 use crate::record::UnitRecord;
 
 impl Register {
-    pub fn empty() -> Register
+    pub(crate) fn empty() -> Register
         ensures { λ r. ⌜ units-of r ≡ [] ⌝ }
     {
         Register {
@@ -22,7 +22,7 @@ impl Register {
     }
 
     // Puts a unit last.
-    pub fn push(&mut self, unit: UnitRecord)
+    pub(crate) fn push(&mut self, unit: UnitRecord)
         requires room { ⌜ length (units-of (now self)) < 64 ⌝ }
         requires lawful { ⌜ lawful (unit-of unit .capacity) (unit-of unit .states) ≡ true ⌝ }
         requires capacity { ⌜ registered-capacity (units-of (now self)) + unit-of unit .capacity ≤ 1000 ⌝ }

@@ -53,21 +53,21 @@ impl Register {
     }
 
     // The place of the unit with an identity.
-    pub fn find(&self, identity: u32) -> Option<usize>
+    pub(crate) fn find(&self, identity: u32) -> Option<usize>
         ensures { λ r. ⌜ r ≡ place-of identity (units-of (now (self .entry))) ⌝ }
     {
         find(self.registered(), identity)
     }
 
     // The capacity and the standing of the unit at a place.
-    pub fn at(&self, place: usize) -> (u32, u32)
+    pub(crate) fn at(&self, place: usize) -> (u32, u32)
         requires { ⌜ place < length (units-of (now self)) ⌝ }
         ensures { λ r. ⌜ ((d : GeneratingUnit) → r ≡ plain (getD (units-of (now (self .entry))) place d)) ⌝ }
     {
         self.units[place].plain()
     }
 
-    pub fn total(&self, which: Share) -> u32
+    pub(crate) fn total(&self, which: Share) -> u32
         ensures value { λ r. ⌜ r ≡ total-of which (units-of (now (self .entry))) ⌝ }
         ensures bound { λ r. ⌜ r ≤ 1000 ⌝ }
     {
@@ -75,7 +75,7 @@ impl Register {
     }
 
     // Whether one unit more finds room.
-    pub fn room(&self, identity: u32, capacity: u32) -> Result<(), Refusal>
+    pub(crate) fn room(&self, identity: u32, capacity: u32) -> Result<(), Refusal>
         requires { ⌜ capacity ≤ 1000 ⌝ }
         ensures { λ r. ⌜ Outcome (room-refusal (units-of (now (self .entry))) identity capacity) r (λ _. Unit {0}) ⌝ }
     {

@@ -1,16 +1,19 @@
-use mathlib.Core.Path.{sym, ap, _∙_}
+use mathlib.Core.Path.{refl, ap, _∙_}
 use native.Mathlib.Omega.{arith}
 use lib.Seq.{take-all}
+use Rattle.std.proofs.shelf.Sums.{sumBy-more}
 use Rattle.rounding.specs.Mixture.{weights}
-use Rattle.rounding.proofs.Amounts.{weights-none, weights-more}
+use Rattle.rounding.specs.declared.state.State.{State}
 use Rattle.fleet.proofs.states.total_weight.Needs as need
 
 pub loop-state-holds : need.loop-state-holds
-loop-state-holds c = (sym weights-none, omega arith)
+unfolding weights
+loop-state-holds c = (refl, omega arith)
 
 pub loop-state-again : need.loop-state-again
+unfolding weights
 loop-state-again c =
-    let more = weights-more (c .args .states .now) (c .loop-state .state-index) (record { outage = 0; weight = 0 }) (c .loop-state-test .taken) in
+    let more = sumBy-more (λ (s : State). s .weight) (c .args .states .now) (c .loop-state .state-index) (record { outage = 0; weight = 0 }) (c .loop-state-test .taken) in
     (omega arith, omega arith)
 
 pub returns : need.returns
