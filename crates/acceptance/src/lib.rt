@@ -3,6 +3,8 @@
 #[cfg(test)]
 mod cases;
 #[cfg(test)]
+mod own_rule;
+#[cfg(test)]
 mod refusals;
 #[cfg(test)]
 mod sheets;

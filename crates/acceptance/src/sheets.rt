@@ -263,3 +263,25 @@ fn a_fault_in_writing(rt: LibcRuntime) -> Result<(), Fail> {
         }
     }
 }
+
+// Twenty units: the entries were found by a separate program with whole numbers of any size. By
+// exact fractions none of its entries is off by more than 2.46 parts.
+#[test]
+fn twenty_units() -> Result<(), Fail> {
+    let sheet =
+        b"id,cap,rate,part,prate\n1,12,80000,0,0\n2,12,10000,0,0\n3,12,120000,0,0\n4,20,20000,10,15000\n5,20,100000,0,0\n6,50,80000,0,0\n7,50,20000,0,0\n8,50,40000,25,15000\n9,76,100000,0,0\n10,76,120000,0,0\n11,100,120000,0,0\n12,100,100000,50,15000\n13,5,100000,0,0\n14,7,120000,0,0\n15,9,20000,0,0\n16,3,100000,1,15000\n17,30,20000,0,0\n18,45,120000,0,0\n19,60,20000,0,0\n20,75,40000,37,15000\n";
+    let mut fleet = Fleet::open();
+    check(intake(&mut fleet, &Nearest, sheet).is_ok())?;
+    check_eq(fleet.greatest_outage(), 812)?;
+    check_eq(fleet.entry(1)?, (799_306_404_821, 20))?;
+    check_eq(fleet.entry(2)?, (795_904_818_460, 20))?;
+    check_eq(fleet.entry(10)?, (716_103_691_300, 20))?;
+    check_eq(fleet.entry(50)?, (530_548_039_355, 20))?;
+    check_eq(fleet.entry(100)?, (296_815_582_125, 20))?;
+    check_eq(fleet.entry(200)?, (38_139_601_349, 20))?;
+    check_eq(fleet.entry(300)?, (2_424_729_398, 20))?;
+    check_eq(fleet.entry(400)?, (73_531_435, 20))?;
+    check_eq(fleet.entry(500)?, (517_231, 20))?;
+    check_eq(fleet.entry(600)?, (896, 20))?;
+    check_eq(fleet.entry(700)?, (0, 20))
+}
