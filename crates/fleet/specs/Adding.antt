@@ -1,12 +1,11 @@
 -- Adding a unit: when it is refused, and what it makes of the ledger. Assumes nothing.
 use mathlib.Core.Bool.{not, _&&_}
-use mathlib.Core.List.{List, [], _∷_, _++_, map}
+use mathlib.Core.List.{List, [], _∷_, _++_}
 use Prim.Native.Nat.{ℕ, _+_}
 use lib.Dec.{leb, ltb}
 use lib.ListN.{length}
-use Rattle.std.specs.Iters.{counting}
 use Rattle.std.specs.declared.option.Option.{Option}
-use Rattle.rounding.specs.Mixture.{million, amount}
+use Rattle.rounding.specs.Adding.{added}
 use Rattle.rounding.specs.declared.state.State.{State}
 use Rattle.fleet.specs.Refusals.{first, refused-if, unless}
 use Rattle.fleet.specs.States.{lawful}
@@ -59,15 +58,11 @@ add-refusal l identity capacity states =
     first (unit-refusal identity capacity states)
     (first (room-refusal (l .units) identity capacity) (tolerance-refusal (raised (l .tolerance))))
 
--- the table with one unit more: at each place the rule's answer for the amount and a million
-unfoldable pub mixed : (ℕ → ℕ → ℕ) → List State → List ℕ → List ℕ
-mixed answer states table = map (λ k. answer (amount states table k) million) (counting 0 (length table))
-
 -- the ledger after the call, refused or not
 abbrev pub after-add : (ℕ → ℕ → ℕ) → Ledger → ℕ → ℕ → List State → Ledger
 after-add answer l identity capacity states =
     unless (add-refusal l identity capacity states) l (record {
       units = l .units ++ new-unit identity capacity states ∷ [];
-      table = mixed answer states (l .table);
+      table = added answer states (l .table);
       tolerance = raised (l .tolerance);
     })

@@ -3,6 +3,7 @@ pub mod States
 pub mod Units
 pub mod LookUp
 pub mod Ledger
+pub mod Entries
 pub mod Adding
 pub mod Registers
 pub mod Fleets

@@ -35,6 +35,7 @@ share Registered u = u .capacity
 share InService u = cond (u .serving) (u .capacity) 0
 share Outage u = cond (u .serving) (last-outage (u .states)) 0
 
+-- the sum of what the units count for
 unfoldable pub total : Share → List GeneratingUnit → ℕ
 total which units = sumBy (share which) units
 

@@ -78,13 +78,13 @@ impl UnitRecord {
         requires { ⌜ length (now states) ≤ 8 ⌝ }
         ensures { λ r. ⌜ unit-of r ≡ new-unit identity capacity (now (states .entry)) ⌝ }
     {
-        let mut record = UnitRecord::BLANK;
-        record.identity = identity;
-        record.capacity = capacity;
-        record.states = copied(states);
-        record.count = states.len();
-        record.serving = true;
-        record
+        UnitRecord {
+            identity,
+            capacity,
+            states: copied(states),
+            count: states.len(),
+            serving: true,
+        }
     }
 
     // The unit's states. The count is held to the array's length, so that any record has some.
@@ -130,15 +130,12 @@ impl UnitRecord {
     }
 }
 
-// At most eight states in the places of a record; the places after them are blank.
+// At most eight states in the places of a record; the places after them stay blank.
 fn copied(states: &[State]) -> [State; STATES]
     requires { ⌜ length (now states) ≤ 8 ⌝ }
     ensures { λ r. ⌜ take (length (now (states .entry))) r ≡ now (states .entry) ⌝ }
 {
-    let mut all = [State {
-        outage: 0,
-        weight: 0,
-    }; STATES];
+    let mut all = UnitRecord::BLANK.states;
     for (i, state) in states.iter().enumerate() {
         all[i] = *state;
     }

@@ -8,7 +8,8 @@ use Rattle.std.specs.Options.{mapped}
 use Rattle.std.specs.declared.option.Option.{Option}
 use Rattle.std.specs.declared.option.Option.the-variants.{Some, None}
 use Rattle.std.proofs.shelf.Lists.{length-push}
-use Rattle.fleet.specs.Adding.{mixed, raised}
+use Rattle.rounding.specs.Adding.{added}
+use Rattle.fleet.specs.Adding.{raised}
 use Rattle.fleet.specs.Ledger.{Ledger}
 use Rattle.fleet.specs.Refusals.{unless}
 use Rattle.fleet.specs.Units.{new-unit}
@@ -78,7 +79,7 @@ module _ (answer : ℕ → ℕ → ℕ) (was is : Rows) (row : Row) (read : RowR
 grown : (answer : ℕ → ℕ → ℕ) (l : Ledger) (row : Row) → row-refusal l row ≡ None → length (after-row answer l row .units) ≡ length (l .units) + 1
 grown answer l row h =
     let pushed = length-push (l .units) (new-unit (row .id) (row .«cap») (states row)) in
-    ap (λ o. length (unless o l (record { units = l .units ++ new-unit (row .id) (row .«cap») (states row) ∷ []; table = mixed answer (states row) (l .table); tolerance = raised (l .tolerance) }) .units)) h ∙ pushed
+    ap (λ o. length (unless o l (record { units = l .units ++ new-unit (row .id) (row .«cap») (states row) ∷ []; table = added answer (states row) (l .table); tolerance = raised (l .tolerance) }) .units)) h ∙ pushed
 
 Grows : Intake → Ledger → ℕ → Type 0
 Grows i l n = length (i .ledger .units) + n ≡ length (l .units) + i .added

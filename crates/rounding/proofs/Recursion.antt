@@ -10,12 +10,13 @@ use lib.Dec.{ltb}
 use lib.ListN.{length, getD, set, length-set}
 use lib.Seq.{getD-set-same, getD-set-other}
 use Rattle.std.specs.shelf.Lists.{All}
+use Rattle.std.proofs.shelf.Counted.{fill-by-all}
 use Rattle.std.proofs.shelf.Lists.{getD-past}
 use Rattle.std.proofs.shelf.Tests.{cases-lt, cases-eq, cond-true, cond-false, lt-ltb, le-ltb}
 use Rattle.rounding.specs.Rule.{Asked, Near, Close, Rising}
 use Rattle.rounding.specs.Table.{full, back, Falling, Zeros, Within}
 use Rattle.rounding.specs.Mixture.{million, weights, Outages, amount, mixture}
-use Rattle.rounding.specs.Adding.{Added}
+use Rattle.rounding.specs.Adding.{added}
 use Rattle.rounding.specs.declared.state.State.{State}
 use Rattle.rounding.proofs.Amounts.{amount-cons, amount-none, amount-le, mixture-cons, mixture-none, weights-cons, weights-none}
 
@@ -107,6 +108,16 @@ pub record Partly (answer : ℕ → ℕ → ℕ) (states : List State) (old new 
   pub kept : (j : ℕ) → j < k → getD new j 0 ≡ getD old j 0
   pub made : (j : ℕ) → k ≤ j → j < length old → getD new j 0 ≡ answer (amount states old j) million
 
+-- each new entry, by its place
+pub record Added (answer : ℕ → ℕ → ℕ) (states : List State) (old new : List ℕ) : Type 0 where
+  pub places : length new ≡ length old
+  pub entries : (k : ℕ) → k < length old → getD new k 0 ≡ answer (amount states old k) million
+
+pub added-is : (answer : ℕ → ℕ → ℕ) (states : List State) (old new : List ℕ) → Added answer states old new → new ≡ added answer states old
+unfolding added
+added-is answer states old new h =
+    fill-by-all (λ k. answer (amount states old k) million) new (length old) 0 (h .places) (λ k inside. h .entries k inside)
+
 -- what a rule with the laws answers for an amount and a million
 module _ (answer : ℕ → ℕ → ℕ) (close : Close answer) (rising : Rising answer) where
   asked : (amount : ℕ) → amount ≤ million * full → Asked amount million
@@ -147,23 +158,23 @@ module _ (answer : ℕ → ℕ → ℕ) (close : Close answer) (rising : Rising 
               (cases-eq j k);
         }
 
-    module _ (new : List ℕ) (added : Added answer states old new) where
+    module _ (new : List ℕ) (made : Added answer states old new) where
       inside-first : 0 < length old
       inside-first = ⊎-elim (λ h. h) (λ past. let none = getD-past old 0 0 past in absurd (omega arith)) (cases-lt 0 (length old))
 
       pub added-certain : getD new 0 0 ≡ full
       added-certain =
-          added .entries 0 inside-first ∙ ap (λ a. answer a million) (amount-certain old certain falling states ∙ ap (λ w. w * full) shares) ∙ answer-full
+          made .entries 0 inside-first ∙ ap (λ a. answer a million) (amount-certain old certain falling states ∙ ap (λ w. w * full) shares) ∙ answer-full
 
       past-zero : (k : ℕ) → length old ≤ k → getD new k 0 ≡ 0
-      past-zero k past = getD-past new k 0 (omega (arith, added .places))
+      past-zero k past = getD-past new k 0 (omega (arith, made .places))
 
       pub added-falling : Falling new
       added-falling k =
           ⊎-elim
           (λ inside.
           let here : k < length old = omega arith in
-          rw (added .entries (k + 1) inside, added .entries k here)
+          rw (made .entries (k + 1) inside, made .entries k here)
           (rising (amount states old (k + 1)) (amount states old k) million (asked _ (old-le k)) (amount-falls old certain falling states k)))
           (λ past. rw (past-zero (k + 1) past) (omega arith))
           (cases-lt (k + 1) (length old))
@@ -171,20 +182,20 @@ module _ (answer : ℕ → ℕ → ℕ) (close : Close answer) (rising : Rising 
       pub added-zeros : (m most : ℕ) → Outages most states → Zeros m old → Zeros (m + most) new
       added-zeros m most few zeros k above =
           ⊎-elim
-          (λ inside. added .entries k inside ∙ ap (λ a. answer a million) (amount-zero old certain falling m most states few zeros k above) ∙ answer-none)
+          (λ inside. made .entries k inside ∙ ap (λ a. answer a million) (amount-zero old certain falling m most states few zeros k above) ∙ answer-none)
           (past-zero k)
           (cases-lt k (length old))
 
       pub added-within : (t scale : ℕ) (x : ℕ → ℕ) → Within t scale x old → Within (t + 1) (scale * million) (mixture states x) new
       added-within t scale x within = record {
         over = λ k h.
-            let inside : k < length old = omega (arith, added .places) in
+            let inside : k < length old = omega (arith, made .places) in
             let near = mul-le-mul-right scale (le-of-lt (close (amount states old k) million (asked _ (old-le k)) .above)) in
             let mixed = rw shares at (amount-over old certain falling t scale x within k inside states) in
-            rw (added .entries k inside) (omega arith);
+            rw (made .entries k inside) (omega arith);
         under = λ k h.
-            let inside : k < length old = omega (arith, added .places) in
+            let inside : k < length old = omega (arith, made .places) in
             let near = mul-le-mul-right scale (le-of-lt (close (amount states old k) million (asked _ (old-le k)) .below)) in
             let mixed = rw shares at (amount-under old certain falling t scale x within k inside states) in
-            rw (added .entries k inside) (omega arith);
+            rw (made .entries k inside) (omega arith);
       }

@@ -5,7 +5,7 @@ ghost use Prim.Native.Nat.{ℕ, _+_, _*_, _<_, _≤_};
 ghost use lib.ListN.{length, getD};
 ghost use Rattle.rounding.specs.Table.{full, back as entry-back, Falling, Zeros, Within};
 ghost use Rattle.rounding.specs.Mixture.{million, weights, Outages, amount as amount-of, mixture};
-ghost use Rattle.rounding.specs.Adding.{Added};
+ghost use Rattle.rounding.specs.Adding.{added};
 use crate::rule::Rounding;
 use crate::state::State;
 
@@ -49,7 +49,7 @@ pub fn add<R: Rounding>(rule: &R, states: &[State], entries: &mut [u64])
     requires shares { ⌜ weights (now states) ≡ million ⌝ }
     requires certain { ⌜ getD (now entries) 0 0 ≡ full ⌝ }
     requires falling { ⌜ Falling (now entries) ⌝ }
-    ensures added { λ _. ⌜ Added (answer (now (rule .entry))) (now (states .entry)) (now (entries .entry)) (now (entries .exit)) ⌝ }
+    ensures entries { λ _. ⌜ now (entries .exit) ≡ added (answer (now (rule .entry))) (now (states .entry)) (now (entries .entry)) ⌝ }
     ensures certain { λ _. ⌜ getD (now (entries .exit)) 0 0 ≡ full ⌝ }
     ensures falling { λ _. ⌜ Falling (now (entries .exit)) ⌝ }
     ensures zeros { λ _. ⌜ ((m most : ℕ) → Outages most (now (states .entry)) → Zeros m (now (entries .entry)) → Zeros (m + most) (now (entries .exit))) ⌝ }

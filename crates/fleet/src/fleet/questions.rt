@@ -5,7 +5,7 @@ ghost use lib.ListN.{getD};
 ghost use Rattle.fleet.specs.Refusals.{Outcome};
 ghost use Rattle.fleet.specs.Units.{capacity as service-capacity, greatest-outage};
 ghost use Rattle.fleet.specs.LookUp.{look-up};
-ghost use Rattle.fleet.specs.Ledger.{Entry, entry-refusal};
+ghost use Rattle.fleet.specs.Entries.{Entry, entry-refusal};
 ghost use Rattle.fleet.specs.Fleets.{ledger-of};
 use super::Fleet;
 use super::PLACES;

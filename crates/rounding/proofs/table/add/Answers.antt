@@ -1,8 +1,7 @@
 use mathlib.Core.Path.{_≡_, refl, subst}
 use Prim.Native.Nat.{_+_, _-_}
 use native.Mathlib.Omega.{arith}
-use Rattle.rounding.specs.Adding.{Added}
-use Rattle.rounding.proofs.Recursion.{Partly, partly-le, partly-more, added-certain, added-falling, added-zeros, added-within}
+use Rattle.rounding.proofs.Recursion.{Partly, Added, partly-le, partly-more, added-is, added-certain, added-falling, added-zeros, added-within}
 use Rattle.rounding.proofs.table.add.Needs as need
 
 pub amount-requires : need.amount-requires
@@ -29,11 +28,11 @@ returns g c =
     let close = g .R·Rounding·met .close rule in
     let rising = g .R·Rounding·met .rising rule in
     let p = c .pre in
-    let added : Added (g .R·Rounding .answer rule) (c .args .states .now) (c .args .entries .now) (c .loop-k .entries) = record { places = c .loop-k .inv .places; entries = λ k h. c .loop-k .inv .made k (omega arith) h } in
+    let made : Added (g .R·Rounding .answer rule) (c .args .states .now) (c .args .entries .now) (c .loop-k .entries) = record { places = c .loop-k .inv .places; entries = λ k h. c .loop-k .inv .made k (omega arith) h } in
     record {
-      added = added;
-      certain = added-certain _ close rising _ (p .shares) _ (p .certain) (p .falling) _ added;
-      falling = added-falling _ close rising _ (p .shares) _ (p .certain) (p .falling) _ added;
-      zeros = added-zeros _ close rising _ (p .shares) _ (p .certain) (p .falling) _ added;
-      error = added-within _ close rising _ (p .shares) _ (p .certain) (p .falling) _ added;
+      entries = added-is _ _ _ _ made;
+      certain = added-certain _ close rising _ (p .shares) _ (p .certain) (p .falling) _ made;
+      falling = added-falling _ close rising _ (p .shares) _ (p .certain) (p .falling) _ made;
+      zeros = added-zeros _ close rising _ (p .shares) _ (p .certain) (p .falling) _ made;
+      error = added-within _ close rising _ (p .shares) _ (p .certain) (p .falling) _ made;
     }

@@ -2,13 +2,14 @@ use mathlib.Core.Path.{_≡_, sym, ap, subst, _∙_}
 use mathlib.Core.List.{[], _∷_, _++_}
 use Prim.Native.Nat.{_+_, _≤_}
 use native.Mathlib.Omega.{arith}
+use lib.ListN.{length}
 use Rattle.rounding.specs.Table.{Zeros}
 use Rattle.fleet.specs.States.{last-outage}
 use Rattle.fleet.specs.Units.{greatest-outage}
 use Rattle.fleet.specs.Registers.{units-of}
 use Rattle.fleet.proofs.Lawful.{ruled}
 use Rattle.fleet.proofs.Refusing.{neither-refuses}
-use Rattle.fleet.proofs.Adding.{accepted-lawful, accepted-tolerance, added-is, added-outage, after-accepted}
+use Rattle.fleet.proofs.Adding.{accepted-lawful, accepted-tolerance, length-added, added-outage, after-accepted}
 use Rattle.fleet.proofs.fleet.Fleet.add.Needs as need
 
 pub add-requires : need.add-requires
@@ -28,7 +29,7 @@ ghost-self g c =
     let pushed = c .push .ensures ∙ ap (λ u. units-of (self .register) ++ u ∷ []) unit in
     let most = added-outage (units-of (self .register)) (units-of (c .push .last .self)) (c .args .identity) (c .args .capacity) states pushed in
     let risen = c .in-Continue-tolerance .ensures tt in (
-      told .added .places ∙ self .places,
+      ap length (told .entries) ∙ length-added _ states (self .table) ∙ self .places,
       (
         told .certain,
         (
@@ -51,5 +52,5 @@ returns g c =
     let pushed = c .push .ensures ∙ ap (λ u. units-of (self .register) ++ u ∷ []) (unit .1) in
     record {
       answer = (none, risen .1);
-      after = after-accepted _ _ _ _ _ _ none pushed (added-is _ _ _ _ (c .add .ensures .added)) (risen .1);
+      after = after-accepted _ _ _ _ _ _ none pushed (c .add .ensures .entries) (risen .1);
     }
