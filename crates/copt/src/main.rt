@@ -34,15 +34,24 @@ fn print_fault(rt: &LibcRuntime, stopped: &Stopped) -> io::Result<()> {
     println!(rt, "{stopped}")
 }
 
-fn run(rt: &LibcRuntime) -> io::Result<()> {
-    let sheet = read_sheet(rt)?;
+// The table of a sheet, or its fault.
+fn answer(rt: &LibcRuntime, sheet: &[u8]) -> io::Result<()> {
     let mut fleet = Fleet::open();
-    match intake(&mut fleet, &Nearest, &sheet) {
+    match intake(&mut fleet, &Nearest, sheet) {
         Ok(_) => print_table(rt, &fleet),
         Err(stopped) => print_fault(rt, &stopped),
     }
 }
 
+// Says on standard error what could not be done.
+fn report<T>(rt: &LibcRuntime, what: &str, result: io::Result<T>) -> io::Result<T> {
+    if let Err(e) = &result {
+        let _ = eprintln!(rt, "copt: {what}: {e}");
+    }
+    result
+}
+
 fn main(rt: LibcRuntime) -> io::Result<()> {
-    rt.report(run(&rt))
+    let sheet = report(&rt, "cannot read standard input", read_sheet(&rt))?;
+    report(&rt, "cannot write standard output", answer(&rt, &sheet))
 }

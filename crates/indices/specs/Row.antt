@@ -3,6 +3,7 @@ use mathlib.Core.Bool.{Bool, cond, not, _&&_}
 use mathlib.Core.List.{List, [], _∷_, _++_}
 use Prim.Native.Nat.{ℕ, _+_, _-_}
 use lib.Dec.{eqb, leb}
+use Rattle.rounding.specs.Mixture.{million}
 use Rattle.rounding.specs.declared.state.State.{State}
 use Rattle.indices.specs.declared.names.Column.{Column}
 use Rattle.indices.specs.declared.names.Column.the-variants.{Id, Cap, Rate, Part, Prate}
@@ -38,4 +39,4 @@ state-if decides outage weight = cond (eqb decides 0) [] (record { outage = outa
 -- no outage, the partial outage, the full outage; weights in millionths
 abbrev pub states : Row → List State
 states r =
-    record { outage = 0; weight = 1000000 - r .rate - r .prate } ∷ (state-if (r .part) (r .part) (r .prate) ++ state-if (r .rate) (r .«cap») (r .rate))
+    record { outage = 0; weight = million - r .rate - r .prate } ∷ (state-if (r .part) (r .part) (r .prate) ++ state-if (r .rate) (r .«cap») (r .rate))

@@ -7,18 +7,16 @@ ghost use Rattle.indices.specs.Row.{under, row-of, rates, state-if, states};
 use crate::names::COLUMNS;
 use crate::names::Column;
 use crate::names::ColumnPartialEq;
+use rounding::MILLION;
 use rounding::State;
-
-// the weights of a unit's states together, in millionths
-const MILLION: u32 = 1_000_000;
 
 // the rates of a unit leave some weight to no outage
 const MOST_RATES: u64 = 999_999;
 
-// a unit has at most this many states
+// a row gives at most this many states
 const STATES: usize = 3;
 
-#[derive(Clone, Copy, PartialEq, Eq, Debug)]
+#[derive(Clone, Copy)]
 pub struct Row {
     pub line: u32,
     pub id: u32,
