@@ -13,15 +13,15 @@ use Rattle.fleet.specs.Units.{GeneratingUnit, new-unit, registered-capacity}
 use Rattle.fleet.specs.LookUp.{registered}
 use Rattle.fleet.specs.Ledger.{Ledger}
 
--- 1: identity 0 or above 65,535
+-- 1: the identity is not one of 1 to 65,535
 abbrev pub identity-refusal : ℕ → Option ℕ
 identity-refusal identity = refused-if (not (leb 1 identity && leb identity 65535)) 1
 
--- 2: capacity 0 or above 1,000
+-- 2: the capacity is not one of 1 to 1,000
 abbrev pub capacity-refusal : ℕ → Option ℕ
 capacity-refusal capacity = refused-if (not (leb 1 capacity && leb capacity 1000)) 2
 
--- 3: a rule on states or their number is broken
+-- 3: the states do not keep their rules
 abbrev pub states-refusal : ℕ → List State → Option ℕ
 states-refusal capacity states = refused-if (not (lawful capacity states)) 3
 
@@ -33,11 +33,11 @@ registered-refusal units identity = refused-if (registered identity units) 4
 abbrev pub full-refusal : List GeneratingUnit → Option ℕ
 full-refusal units = refused-if (leb 64 (length units)) 5
 
--- 6: the registered capacity, units out included, would pass 1,000
+-- 6: all registered units, in service or out, would come to more than 1,000 steps
 abbrev pub total-refusal : List GeneratingUnit → ℕ → Option ℕ
 total-refusal units capacity = refused-if (ltb 1000 (registered-capacity units + capacity)) 6
 
--- 10: the new tolerance would pass 1,000,000
+-- 10: the tolerance would come to more than 1,000,000
 abbrev pub tolerance-refusal : ℕ → Option ℕ
 tolerance-refusal tolerance = refused-if (ltb 1000000 tolerance) 10
 

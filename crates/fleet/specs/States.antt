@@ -11,7 +11,7 @@ use Rattle.rounding.specs.declared.state.State.{State}
 abbrev pub starts : State → Bool
 starts s = eqb (s .outage) 0 && leb 1 (s .weight)
 
--- a state after it has a greater outage than the one before, not above the capacity, and some weight
+-- outages rise from state to state and stay within the capacity, and each state has some weight
 abbrev pub follows : ℕ → ℕ → State → Bool
 follows capacity before s = ltb before (s .outage) && (leb (s .outage) capacity && leb 1 (s .weight))
 

@@ -18,7 +18,7 @@ const TOLERANCE: u32 = 1_000_000;
 #[derive(Drop)]
 pub struct Fleet {
     register: Register,
-    // entry k: the probability in parts that k steps or more are out
+    // entry k: how likely it is, in parts, that at least k steps are out
     table: [u64; PLACES],
     // how far an entry may lie from its exact value, in parts
     tolerance: u32,

@@ -4,17 +4,17 @@ ghost use Rattle.fleet.specs.Refusals.{number as number-of};
 
 #[derive(Clone, Copy, PartialEq, Eq, Debug)]
 pub enum Refusal {
-    // identity 0 or above 65,535
+    // the identity is not one of 1 to 65,535
     Identity,
-    // capacity 0 or above 1,000
+    // the capacity is not one of 1 to 1,000
     Capacity,
-    // a rule on states or their number is broken
+    // the states do not keep their rules
     States,
     // the identity is registered
     Registered,
     // 64 units are registered
     Full,
-    // the registered capacity, units out included, would pass 1,000
+    // all registered units, in service or out, would come to more than 1,000 steps
     TotalCapacity,
     // the new tolerance would pass 1,000,000
     Tolerance,

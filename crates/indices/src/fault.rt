@@ -14,13 +14,13 @@ pub enum Reason {
     NoLineFeed,
     // line 1 does not hold each name once
     Names,
-    // a byte other than a digit in a value
+    // a value holds a byte that is no digit
     NotDigit,
-    // a value of no digit or of more than seven
+    // a value is empty, or longer than seven digits
     DigitCount,
     // a line of more or fewer than five fields
     FieldCount,
-    // rates above the whole, or just one of part and prate is 0
+    // the rates leave no weight to full service, or a partial outage lacks its size or its rate
     Rates,
     // the fleet refuses the unit
     Fleet(Refusal),

@@ -17,11 +17,11 @@ pub record Near (amount divisor answer : ℕ) : Type 0 where
 abbrev pub Close : (ℕ → ℕ → ℕ) → Type 0
 Close answer = (amount divisor : ℕ) → Asked amount divisor → Near amount divisor (answer amount divisor)
 
--- with one divisor, a greater amount never has a smaller answer
+-- for a fixed divisor the answer never falls as the amount grows
 abbrev pub Rising : (ℕ → ℕ → ℕ) → Type 0
 Rising answer = (less more divisor : ℕ) → Asked more divisor → less ≤ more → answer less divisor ≤ answer more divisor
 
--- the quotient, or one more where the rule says so of the remainder and the divisor; 0 for divisor 0
+-- the quotient, raised by one where the rule says so of the remainder and the divisor; 0 for divisor 0
 abbrev pub divided : (ℕ → ℕ → Bool) → ℕ → ℕ → ℕ
 divided one-more amount divisor =
     cond (eqb divisor 0) 0 (amount / divisor + cond (one-more (amount % divisor) divisor) 1 0)
@@ -30,10 +30,10 @@ divided one-more amount divisor =
 abbrev pub down : ℕ → ℕ → ℕ
 down = divided (λ remainder divisor. false)
 
--- one more if there is a remainder
+-- raised by one unless the division is exact
 abbrev pub up : ℕ → ℕ → ℕ
 up = divided (λ remainder divisor. ltb 0 remainder)
 
--- one more if twice the remainder is at least the divisor
+-- raised by one where the remainder is half the divisor or more
 abbrev pub nearest : ℕ → ℕ → ℕ
 nearest = divided (λ remainder divisor. leb divisor (2 * remainder))

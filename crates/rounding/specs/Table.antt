@@ -1,4 +1,4 @@
--- A table of entries: entry k is the probability, in parts of 10^-12, that k steps or more are out. Assumes nothing.
+-- A table of entries: entry k tells, in parts of 10^-12, how likely it is that at least k steps are out. Assumes nothing.
 use mathlib.Core.Bool.{cond}
 use mathlib.Core.List.{List}
 use mathlib.Core.Path.{_≡_}
@@ -10,15 +10,15 @@ use lib.ListN.{length, getD}
 abbrev pub full : ℕ
 full = 1_000_000_000_000
 
--- the entry at place k − outage; a place below 0 is read as certainty
+-- the entry at place k − outage; below place 0 all is certain
 abbrev pub back : List ℕ → ℕ → ℕ → ℕ
 back entries k outage = cond (ltb k outage) full (getD entries (k - outage) 0)
 
--- no entry exceeds the one before it
+-- the entries never rise from place to place
 abbrev pub Falling : List ℕ → Type 0
 Falling entries = (k : ℕ) → getD entries (k + 1) 0 ≤ getD entries k 0
 
--- all entries above the greatest possible outage are 0
+-- above the greatest outage every entry is 0
 abbrev pub Zeros : ℕ → List ℕ → Type 0
 Zeros greatest entries = (k : ℕ) → greatest < k → getD entries k 0 ≡ 0
 

@@ -10,7 +10,7 @@ pub trait Rounding {
     // the answer times the divisor is less than one divisor from the amount
     law close: { (rule : Self) → Close (answer rule) };
 
-    // with one divisor, a greater amount never has a smaller answer
+    // for a fixed divisor the answer never falls as the amount grows
     law rising: { (rule : Self) → Rising (answer rule) };
 
     fn round(&self, amount: u64, divisor: u32) -> u64

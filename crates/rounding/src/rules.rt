@@ -17,7 +17,7 @@ pub impl Rounding for Down as DownRounding {
     }
 }
 
-// One more than the quotient if there is a remainder.
+// The quotient, raised by one unless the division is exact.
 #[derive(Clone, Copy, Debug)]
 pub struct Up;
 
@@ -38,7 +38,7 @@ pub impl Rounding for Up as UpRounding {
     }
 }
 
-// One more than the quotient if twice the remainder is at least the divisor.
+// The quotient, raised by one where the remainder is half the divisor or more.
 #[derive(Clone, Copy, Debug)]
 pub struct Nearest;
 
