@@ -69,8 +69,12 @@ fn outages_of_states() -> Result<(), Fail> {
     check_eq(refused_by_open(1, 3, &[state(0, half), state(1, half)]), 0)?;
     check_eq(refused_by_open(1, 3, &[state(0, half), state(3, half)]), 0)?;
     check_eq(refused_by_open(1, 3, &[state(0, half), state(4, half)]), 3)?;
-    let falling = [state(0, half), state(2, 250_000), state(2, 250_000)];
-    check_eq(refused_by_open(1, 3, &falling), 3)
+    let level = [state(0, half), state(2, 250_000), state(2, 250_000)];
+    check_eq(refused_by_open(1, 3, &level), 3)?;
+    let falling = [state(0, half), state(2, 250_000), state(1, 250_000)];
+    check_eq(refused_by_open(1, 3, &falling), 3)?;
+    let rising = [state(0, half), state(1, 250_000), state(2, 250_000)];
+    check_eq(refused_by_open(1, 3, &rising), 0)
 }
 
 #[test]

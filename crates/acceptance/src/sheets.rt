@@ -252,14 +252,37 @@ fn refusals_of_the_fleet() -> Result<(), Fail> {
 }
 
 #[test]
+fn at_most_64_rows() -> Result<(), Fail> {
+    let sheet =
+        b"id,cap,rate,part,prate\n1,1,0,0,0\n2,1,0,0,0\n3,1,0,0,0\n4,1,0,0,0\n5,1,0,0,0\n6,1,0,0,0\n7,1,0,0,0\n8,1,0,0,0\n9,1,0,0,0\n10,1,0,0,0\n11,1,0,0,0\n12,1,0,0,0\n13,1,0,0,0\n14,1,0,0,0\n15,1,0,0,0\n16,1,0,0,0\n17,1,0,0,0\n18,1,0,0,0\n19,1,0,0,0\n20,1,0,0,0\n21,1,0,0,0\n22,1,0,0,0\n23,1,0,0,0\n24,1,0,0,0\n25,1,0,0,0\n26,1,0,0,0\n27,1,0,0,0\n28,1,0,0,0\n29,1,0,0,0\n30,1,0,0,0\n31,1,0,0,0\n32,1,0,0,0\n33,1,0,0,0\n34,1,0,0,0\n35,1,0,0,0\n36,1,0,0,0\n37,1,0,0,0\n38,1,0,0,0\n39,1,0,0,0\n40,1,0,0,0\n41,1,0,0,0\n42,1,0,0,0\n43,1,0,0,0\n44,1,0,0,0\n45,1,0,0,0\n46,1,0,0,0\n47,1,0,0,0\n48,1,0,0,0\n49,1,0,0,0\n50,1,0,0,0\n51,1,0,0,0\n52,1,0,0,0\n53,1,0,0,0\n54,1,0,0,0\n55,1,0,0,0\n56,1,0,0,0\n57,1,0,0,0\n58,1,0,0,0\n59,1,0,0,0\n60,1,0,0,0\n61,1,0,0,0\n62,1,0,0,0\n63,1,0,0,0\n64,1,0,0,0\n65,1,0,0,0\n";
+    check_eq(told(sheet), (3, 5, 66, 0, 64))
+}
+
+#[test]
+fn a_second_sheet() -> Result<(), Fail> {
+    let mut fleet = Fleet::open();
+    let first = b"id,cap,rate,part,prate\n1,3,20000,0,0\n";
+    let second = b"id,cap,rate,part,prate\n2,3,20000,0,0\n1,3,20000,0,0\n";
+    check(intake(&mut fleet, &Nearest, first).is_ok())?;
+    match intake(&mut fleet, &Nearest, second) {
+        Ok(_) => Err(Fail::new("a fault was expected")),
+        Err(stopped) => {
+            check_eq(stopped.added, 1)?;
+            check_eq(stopped.fault.number(), 4)?;
+            check_eq(fleet.entry(3)?, (39_600_000_000, 2))
+        }
+    }
+}
+
+#[test]
 fn a_fault_in_writing(rt: LibcRuntime) -> Result<(), Fail> {
     let sheet = b"id,cap,rate,part,prate\n1,3,20000,0,0\n2,3,2000a,0,0\n";
     let mut fleet = Fleet::open();
     match intake(&mut fleet, &Nearest, sheet) {
         Ok(_) => Err(Fail::new("a fault was expected")),
         Err(stopped) => {
-            let line = format!(rt.alloc(), "{stopped}")?;
-            check_eq(line.as_str(), "1,18,3,3,1")
+            let lines = format!(rt.alloc(), "{stopped}")?;
+            check_eq(lines.as_str(), "layer,number,line,field,added\n1,18,3,3,1")
         }
     }
 }

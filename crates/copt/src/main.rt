@@ -1,6 +1,5 @@
 // copt: reads a unit sheet from standard input and prints its capacity outage table.
 use fleet::Fleet;
-use indices::Stopped;
 use indices::StoppedDisplay;
 use indices::intake;
 use rounding::Nearest;
@@ -29,17 +28,12 @@ fn print_table(rt: &LibcRuntime, fleet: &Fleet) -> io::Result<()> {
     Ok(())
 }
 
-fn print_fault(rt: &LibcRuntime, stopped: &Stopped) -> io::Result<()> {
-    println!(rt, "layer,number,line,field,added")?;
-    println!(rt, "{stopped}")
-}
-
 // The table of a sheet, or its fault.
 fn answer(rt: &LibcRuntime, sheet: &[u8]) -> io::Result<()> {
     let mut fleet = Fleet::open();
     match intake(&mut fleet, &Nearest, sheet) {
         Ok(_) => print_table(rt, &fleet),
-        Err(stopped) => print_fault(rt, &stopped),
+        Err(stopped) => println!(rt, "{stopped}"),
     }
 }
 

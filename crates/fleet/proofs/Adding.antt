@@ -1,6 +1,6 @@
 -- What an accepted unit gives, and the ledger with it. Assumes nothing.
 use mathlib.Core.Path.{_≡_, sym, ap, _∙_}
-use mathlib.Core.Bool.{true, not}
+use mathlib.Core.Bool.{true}
 use mathlib.Core.List.{List, [], _∷_, _++_}
 use Prim.Native.Nat.{ℕ, _+_, _≤_}
 use lib.ListN.{length}
@@ -14,16 +14,17 @@ use Rattle.fleet.specs.Units.{GeneratingUnit, new-unit, greatest-outage}
 use Rattle.fleet.specs.Ledger.{Ledger}
 use Rattle.fleet.specs.Adding.{identity-refusal, capacity-refusal, unit-refusal, tolerance-refusal, raised, add-refusal, after-add}
 use Rattle.fleet.specs.declared.record.Share.the-variants.{Outage}
+use Rattle.fleet.specs.declared.refusal.Refusal.the-variants.{States, Tolerance}
 use Rattle.fleet.proofs.Refusing.{accepted, both-accepted, unless-accepted}
 use Rattle.fleet.proofs.Listing.{total-push}
 
 pub accepted-lawful : (identity capacity : ℕ) (states : List State) → unit-refusal identity capacity states ≡ None → lawful capacity states ≡ true
 accepted-lawful identity capacity states h =
     let sized = both-accepted (identity-refusal identity) _ h .1 in
-    not-false (lawful capacity states) (accepted _ 3 (both-accepted (capacity-refusal capacity) _ sized .1))
+    not-false (lawful capacity states) (accepted _ States (both-accepted (capacity-refusal capacity) _ sized .1))
 
 pub accepted-tolerance : (tolerance : ℕ) → tolerance-refusal tolerance ≡ None → tolerance ≤ 1000000
-accepted-tolerance tolerance h = ltb-false 1000000 tolerance (accepted _ 10 h)
+accepted-tolerance tolerance h = ltb-false 1000000 tolerance (accepted _ Tolerance h)
 
 pub length-added : (answer : ℕ → ℕ → ℕ) (states : List State) (old : List ℕ) → length (added answer states old) ≡ length old
 unfolding added

@@ -1,11 +1,12 @@
 -- Rules of refusal, one after another. Assumes nothing.
-use mathlib.Core.Path.{_≡_, refl, sym, ap, _∙_}
-use mathlib.Core.Bool.{Bool, true, false, not}
+use mathlib.Core.Path.{_≡_, refl, ap, _∙_}
+use mathlib.Core.Bool.{Bool, true, false}
 use Prim.Native.Nat.{ℕ}
 use native.Mathlib.Omega.{arith}
 use Rattle.std.specs.declared.option.Option.{Option}
 use Rattle.std.specs.declared.option.Option.the-variants.{Some, None}
 use Rattle.fleet.specs.Refusals.{first, refused-if, unless}
+use Rattle.fleet.specs.declared.refusal.Refusal.{Refusal}
 
 pub some≢none : {X : Type 0} {x : X} → Some x ≡ None → ⊥
 some≢none h = let z : _≡_ {A = ℕ} 0 1 = cc in omega arith
@@ -13,9 +14,9 @@ some≢none h = let z : _≡_ {A = ℕ} 0 1 = cc in omega arith
 pub some-same : {X : Type 0} {x y : X} → Some x ≡ Some y → x ≡ y
 some-same h = cc
 
-pub accepted : (case : Bool) (n : ℕ) → refused-if case n ≡ None → case ≡ false
-accepted true n h = absurd (some≢none h)
-accepted false n h = refl
+pub accepted : (case : Bool) (refusal : Refusal) → refused-if case refusal ≡ None → case ≡ false
+accepted true refusal h = absurd (some≢none h)
+accepted false refusal h = refl
 
 pub both-accepted : (a b : Option ℕ) → first a b ≡ None → (a ≡ None) × (b ≡ None)
 both-accepted None b h = (refl, h)

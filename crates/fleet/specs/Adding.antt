@@ -12,34 +12,35 @@ use Rattle.fleet.specs.States.{lawful}
 use Rattle.fleet.specs.Units.{GeneratingUnit, new-unit, registered-capacity}
 use Rattle.fleet.specs.LookUp.{registered}
 use Rattle.fleet.specs.Ledger.{Ledger}
+use Rattle.fleet.specs.declared.refusal.Refusal.the-variants.{Identity, Capacity, States, Registered, Full, TotalCapacity, Tolerance}
 
--- 1: the identity is not one of 1 to 65,535
+-- the identity is not one of 1 to 65,535
 abbrev pub identity-refusal : ℕ → Option ℕ
-identity-refusal identity = refused-if (not (leb 1 identity && leb identity 65535)) 1
+identity-refusal identity = refused-if (not (leb 1 identity && leb identity 65535)) Identity
 
--- 2: the capacity is not one of 1 to 1,000
+-- the capacity is not one of 1 to 1,000
 abbrev pub capacity-refusal : ℕ → Option ℕ
-capacity-refusal capacity = refused-if (not (leb 1 capacity && leb capacity 1000)) 2
+capacity-refusal capacity = refused-if (not (leb 1 capacity && leb capacity 1000)) Capacity
 
--- 3: the states do not keep their rules
+-- the states do not keep their rules
 abbrev pub states-refusal : ℕ → List State → Option ℕ
-states-refusal capacity states = refused-if (not (lawful capacity states)) 3
+states-refusal capacity states = refused-if (not (lawful capacity states)) States
 
--- 4: the identity is registered
+-- the identity is registered
 abbrev pub registered-refusal : List GeneratingUnit → ℕ → Option ℕ
-registered-refusal units identity = refused-if (registered identity units) 4
+registered-refusal units identity = refused-if (registered identity units) Registered
 
--- 5: 64 units are registered
+-- 64 units are registered
 abbrev pub full-refusal : List GeneratingUnit → Option ℕ
-full-refusal units = refused-if (leb 64 (length units)) 5
+full-refusal units = refused-if (leb 64 (length units)) Full
 
--- 6: all registered units, in service or out, would come to more than 1,000 steps
+-- all registered units, in service or out, would come to more than 1,000 steps
 abbrev pub total-refusal : List GeneratingUnit → ℕ → Option ℕ
-total-refusal units capacity = refused-if (ltb 1000 (registered-capacity units + capacity)) 6
+total-refusal units capacity = refused-if (ltb 1000 (registered-capacity units + capacity)) TotalCapacity
 
--- 10: the tolerance would come to more than 1,000,000
+-- the tolerance would come to more than 1,000,000
 abbrev pub tolerance-refusal : ℕ → Option ℕ
-tolerance-refusal tolerance = refused-if (ltb 1000000 tolerance) 10
+tolerance-refusal tolerance = refused-if (ltb 1000000 tolerance) Tolerance
 
 -- each rounding of a whole table adds one part to the tolerance
 abbrev pub raised : ℕ → ℕ

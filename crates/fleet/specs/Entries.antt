@@ -6,10 +6,11 @@ use lib.ListN.{getD}
 use Rattle.std.specs.declared.option.Option.{Option}
 use Rattle.fleet.specs.Refusals.{refused-if}
 use Rattle.fleet.specs.Ledger.{Ledger}
+use Rattle.fleet.specs.declared.refusal.Refusal.the-variants.{Place}
 
--- 11: a place above 1,000
+-- a place above 1,000
 abbrev pub entry-refusal : ℕ → Option ℕ
-entry-refusal k = refused-if (ltb 1000 k) 11
+entry-refusal k = refused-if (ltb 1000 k) Place
 
 -- the number of parts at place k, together with the tolerance
 pub record Entry (l : Ledger) (k : ℕ) (answer : ℕ × ℕ) : Type 0 where

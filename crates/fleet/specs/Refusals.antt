@@ -25,8 +25,8 @@ first None next = next
 first (Some n) next = Some n
 
 -- a rule of refusal: its number in its case, and nothing else
-abbrev pub refused-if : Bool → ℕ → Option ℕ
-refused-if case n = cond case (Some n) None
+abbrev pub refused-if : Bool → Refusal → Option ℕ
+refused-if case refusal = cond case (Some (number refusal)) None
 
 -- the call is refused with just the number that its rule gives, or else answers as said
 abbrev pub Outcome : {T : Type 0} → Option ℕ → Result T Refusal → (T → Type 0) → Type 0

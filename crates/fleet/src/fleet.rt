@@ -20,7 +20,7 @@ pub struct Fleet {
     register: Register,
     // entry k: how likely it is, in parts, that at least k steps are out
     table: [u64; PLACES],
-    // how far an entry may lie from its exact value, in parts
+    // by how many parts rounding may have moved an entry
     tolerance: u32,
     ghost places: { length table ≡ 1001 },
     ghost certain: { getD table 0 0 ≡ full },

@@ -87,7 +87,7 @@ impl UnitRecord {
         }
     }
 
-    // The unit's states. The count is held to the array's length, so that any record has some.
+    // The unit's states. The count is held to the array's length, so that the part stays inside it.
     pub(crate) fn states(&self) -> &[State]
         ensures { λ r. ⌜ now r ≡ take (now (self .entry) .count) (now (self .entry) .states) ⌝ }
     {

@@ -1,4 +1,4 @@
-// The register: at most 64 units in order of arrival.
+// The register: up to 64 units, the earliest first.
 ghost use mathlib.Core.Path.{_≡_};
 ghost use mathlib.Core.Bool.{true};
 ghost use Prim.Native.Nat.{_≤_};

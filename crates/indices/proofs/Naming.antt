@@ -19,7 +19,7 @@ use Rattle.indices.specs.Names.{column, among, all, fresh, order}
 use Rattle.indices.specs.End.{final}
 use Rattle.indices.specs.Reader.{unread, AtStart, Ready, FieldRead, LineEnded, Last}
 use Rattle.indices.specs.Rows.{NamesRead}
-use Rattle.indices.specs.Sheet.{Sheet, rowless, below, headed, text}
+use Rattle.indices.specs.Sheet.{Sheet, no-rows, below, below-names, text}
 use Rattle.indices.specs.Text.{Line, with-field, complete}
 use Rattle.indices.proofs.Columns.{Once, once-none, once-push, room, all-five, not-all}
 use Rattle.indices.proofs.Lines.{Begun}
@@ -27,9 +27,9 @@ use Rattle.indices.proofs.Reading.{ready-at-start, start-after, begun-after}
 
 -- what a sheet says, the fields before a place of line 1 being read
 abbrev pub named : List Column → ℕ → List Line → Sheet
-named before place [] = rowless None
-named before place (l ∷ []) = rowless (final 1 l)
-named before place (l ∷ m ∷ ls) = headed (order before place l) (m ∷ ls)
+named before place [] = no-rows None
+named before place (l ∷ []) = no-rows (final 1 l)
+named before place (l ∷ m ∷ ls) = below-names (order before place l) (m ∷ ls)
 
 text-named : (ls : List Line) → text ls ≡ named [] 1 ls
 text-named [] = refl
@@ -37,16 +37,16 @@ text-named (l ∷ []) = refl
 text-named (l ∷ m ∷ ls) = refl
 
 abbrev next : List Column → ℕ → Line → List Line → Option Column → Sheet
-next before place l ls None = headed (Err place) ls
-next before place l ls (Some c) = headed (order (before ++ (c ∷ [])) (place + 1) l) ls
+next before place l ls None = below-names (Err place) ls
+next before place l ls (Some c) = below-names (order (before ++ (c ∷ [])) (place + 1) l) ls
 
 named-field : (before : List Column) (place : ℕ) (f : List ℕ) (l m : Line) (ls : List Line) (o : Option Column) → fresh before (column f) ≡ o → named before place ((f ∷ l) ∷ m ∷ ls) ≡ next before place l (m ∷ ls) o
 named-field before place f l m ls None h =
-    ap (λ (o : Option Column). headed (elim o [ None ↦ Err place | Some c ↦ order (before ++ (c ∷ [])) (place + 1) l ]) (m ∷ ls)) h
+    ap (λ (o : Option Column). below-names (elim o [ None ↦ Err place | Some c ↦ order (before ++ (c ∷ [])) (place + 1) l ]) (m ∷ ls)) h
 named-field before place f l m ls (Some c) h =
-    ap (λ (o : Option Column). headed (elim o [ None ↦ Err place | Some c ↦ order (before ++ (c ∷ [])) (place + 1) l ]) (m ∷ ls)) h
+    ap (λ (o : Option Column). below-names (elim o [ None ↦ Err place | Some c ↦ order (before ++ (c ∷ [])) (place + 1) l ]) (m ∷ ls)) h
 
-named-wrong : (before : List Column) (place : ℕ) (f : List ℕ) (ls : List Line) → complete ls ≡ true → fresh before (column f) ≡ None → named before place (with-field f ls) ≡ headed (Err place) ls
+named-wrong : (before : List Column) (place : ℕ) (f : List ℕ) (ls : List Line) → complete ls ≡ true → fresh before (column f) ≡ None → named before place (with-field f ls) ≡ below-names (Err place) ls
 named-wrong before place f [] whole h = absurd (both-ways false refl whole)
 named-wrong before place f (l ∷ []) whole h = absurd (both-ways false refl whole)
 named-wrong before place f (l ∷ m ∷ ls) whole h = named-field before place f l m ls None h
@@ -59,7 +59,7 @@ named-next before place f (l ∷ m ∷ ls) c whole h = named-field before place 
 no-lines : {l : Line} {ls : List Line} → [] ≡ l ∷ ls → ⊥
 no-lines e = let n : _≡_ {A = ℕ} 0 1 = cc in omega arith
 
-named-over : (before : List Column) (place : ℕ) (ls : List Line) → Begun ls → named before place ([] ∷ ls) ≡ headed (cond (all before) (Ok before) (Err 0)) ls
+named-over : (before : List Column) (place : ℕ) (ls : List Line) → Begun ls → named before place ([] ∷ ls) ≡ below-names (cond (all before) (Ok before) (Err 0)) ls
 named-over before place [] h = absurd (no-lines (h .is))
 named-over before place (l ∷ ls) h = refl
 
@@ -99,9 +99,9 @@ module _ (was mid is : Reader) (columns : List Column) (count : ℕ) (h : Naming
     pub whole : complete (unread is) ≡ true
     whole = read .ready .whole (omega (arith, read .next-place))
 
-    pub naming-wrong : fresh (take count columns) (column f) ≡ None → text (unread was) ≡ rowless (Some (record { reason = Names; line = 1; field = place }))
+    pub naming-wrong : fresh (take count columns) (column f) ≡ None → text (unread was) ≡ no-rows (Some (record { reason = Names; line = 1; field = place }))
     naming-wrong bad =
-        h .says ∙ ap (named (take count columns) (mid .place + 1)) (read .text) ∙ named-wrong (take count columns) (mid .place + 1) f (unread is) whole bad ∙ ap (λ p. headed (Err p) (unread is)) (sym (read .place-is))
+        h .says ∙ ap (named (take count columns) (mid .place + 1)) (read .text) ∙ named-wrong (take count columns) (mid .place + 1) f (unread is) whole bad ∙ ap (λ p. below-names (Err p) (unread is)) (sym (read .place-is))
 
     module _ (c : Column) (new : fresh (take count columns) (column f) ≡ Some c) where
       other : among c (take count columns) ≡ false
@@ -126,28 +126,28 @@ module _ (was mid is : Reader) (columns : List Column) (count : ℕ) (h : Naming
           }
 
   module _ (end : LineEnded mid is) where
-    over : text (unread was) ≡ headed (cond (all (take count columns)) (Ok (take count columns)) (Err 0)) (unread is)
+    over : text (unread was) ≡ below-names (cond (all (take count columns)) (Ok (take count columns)) (Err 0)) (unread is)
     over =
         h .says ∙ ap (named (take count columns) (mid .place + 1)) (end .text) ∙ named-over (take count columns) (mid .place + 1) (unread is) (begun-after mid is end)
 
-    pub naming-short : count < 5 → text (unread was) ≡ rowless (Some (record { reason = Names; line = 1; field = 0 }))
+    pub naming-short : count < 5 → text (unread was) ≡ no-rows (Some (record { reason = Names; line = 1; field = 0 }))
     naming-short short =
-        over ∙ ap (λ t. headed (cond t (Ok (take count columns)) (Err 0)) (unread is)) (not-all (take count columns) (h .once) (omega (arith, seen)))
+        over ∙ ap (λ t. below-names (cond t (Ok (take count columns)) (Err 0)) (unread is)) (not-all (take count columns) (h .once) (omega (arith, seen)))
 
     pub naming-all : 5 ≤ count → NamesRead was columns is
     naming-all enough =
         let whole : take count columns ≡ columns = take-all count columns (omega (arith, h .five)) in
         record {
           says =
-              over ∙ ap (λ t. headed (cond t (Ok (take count columns)) (Err 0)) (unread is)) (all-five (take count columns) (h .once) (omega (arith, seen, h .few))) ∙ ap (λ cs. below cs 2 (unread is)) whole;
+              over ∙ ap (λ t. below-names (cond t (Ok (take count columns)) (Err 0)) (unread is)) (all-five (take count columns) (h .once) (omega (arith, seen, h .few))) ∙ ap (λ cs. below cs 2 (unread is)) whole;
           five = h .five;
           start = start-after mid is end;
           line = omega (arith, end .next-line, h .line);
         }
 
-  pub naming-last : (fault : Fault) → Last (mid .line) (unread mid) (Some fault) → text (unread was) ≡ rowless (Some fault)
+  pub naming-last : (fault : Fault) → Last (mid .line) (unread mid) (Some fault) → text (unread was) ≡ no-rows (Some fault)
   naming-last fault end =
-      h .says ∙ ap (named (take count columns) (mid .place + 1)) (end .text) ∙ ap (λ n. rowless (final n (end .last))) (sym (h .line)) ∙ ap rowless (end .is)
+      h .says ∙ ap (named (take count columns) (mid .place + 1)) (end .text) ∙ ap (λ n. no-rows (final n (end .last))) (sym (h .line)) ∙ ap no-rows (end .is)
 
   -- a sheet does not end at line 1
   pub naming-on : Last (mid .line) (unread mid) None → ⊥

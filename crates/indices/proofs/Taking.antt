@@ -1,7 +1,7 @@
 -- Rows taken into a ledger one by one. Assumes nothing.
 use mathlib.Core.Path.{_≡_, refl, sym, ap, subst, _∙_}
 use mathlib.Core.List.{List, [], _∷_, _++_}
-use Prim.Native.Nat.{ℕ, _+_, _≤_, _<_}
+use Prim.Native.Nat.{ℕ, _+_, _≤_}
 use native.Mathlib.Omega.{arith}
 use lib.ListN.{length}
 use Rattle.std.specs.Options.{mapped}
@@ -19,8 +19,8 @@ use Rattle.indices.specs.declared.sheet.Rows.{Rows}
 use Rattle.indices.specs.Fault.{Report, report}
 use Rattle.indices.specs.Intake.{Intake, row-refusal, after-row, refused-row, taken, taken-sheet, Took}
 use Rattle.indices.specs.Row.{states}
-use Rattle.indices.specs.Rows.{remaining, Standing, RowRead}
-use Rattle.indices.specs.Sheet.{Sheet, rowless}
+use Rattle.indices.specs.Rows.{remaining, BetweenRows, RowRead}
+use Rattle.indices.specs.Sheet.{Sheet, no-rows}
 
 abbrev pub left : Ledger → ℕ → Option Report → Intake
 left l n fault = record { ledger = l; added = n; fault = fault }
@@ -38,7 +38,7 @@ taken-more answer row rows fault l n = at (row-refusal l row)
     at (Some number) = refl
 
 -- the sheet ends, with a fault or without
-pub taken-rowless : (answer : ℕ → ℕ → ℕ) (s : Sheet) (fault : Option Fault) (l : Ledger) (n : ℕ) → s ≡ rowless fault → taken-sheet answer s l n ≡ left l n (mapped report fault)
+pub taken-rowless : (answer : ℕ → ℕ → ℕ) (s : Sheet) (fault : Option Fault) (l : Ledger) (n : ℕ) → s ≡ no-rows fault → taken-sheet answer s l n ≡ left l n (mapped report fault)
 unfolding taken
 taken-rowless answer s fault l n h = ap (λ t. taken-sheet answer t l n) h
 
@@ -105,7 +105,7 @@ growth answer s l after added fault h =
 -- so far the rows before have been taken, and what is left gives the whole
 pub record Going (answer : ℕ → ℕ → ℕ) (start : Rows) (l₀ : Ledger) (rows : Rows) (l : Ledger) (n : ℕ) : Type 0 where
   pub same : taken-sheet answer (remaining rows) l n ≡ taken-sheet answer (remaining start) l₀ 0
-  pub standing : Standing rows
+  pub standing : BetweenRows rows
   pub bound : n + length (rows .reader .rest .now) ≤ length (start .reader .rest .now)
 
 pub took : (i : Intake) (l : Ledger) (n : ℕ) (fault : Option Report) → left l n fault ≡ i → Took i l n fault
@@ -114,15 +114,15 @@ took i l n fault h = record { ledger-is = ap (λ j. j .ledger) h; added-is = ap 
 -- what `next_row` tells of its answer
 abbrev pub Next : Rows → Rows → Option Row → Type 0
 Next was is (Some row) = RowRead was row is
-Next was is None = remaining was ≡ rowless None
+Next was is None = remaining was ≡ no-rows None
 
 pub some-row : (was is : Rows) (o : Option Row) (row : Row) → o ≡ Some row → Next was is o → RowRead was row is
 some-row was is o row h next = subst (Next was is) h next
 
-pub no-row : (was is : Rows) (o : Option Row) → o ≡ None → Next was is o → remaining was ≡ rowless None
+pub no-row : (was is : Rows) (o : Option Row) → o ≡ None → Next was is o → remaining was ≡ no-rows None
 no-row was is o h next = subst (Next was is) h next
 
 -- nothing is taken of a sheet that has no rows
-pub took-rowless : (answer : ℕ → ℕ → ℕ) (s : Sheet) (fault : Option Fault) (l : Ledger) (n : ℕ) → n ≡ 0 → s ≡ rowless fault → Took (taken-sheet answer s l 0) l n (mapped report fault)
+pub took-rowless : (answer : ℕ → ℕ → ℕ) (s : Sheet) (fault : Option Fault) (l : Ledger) (n : ℕ) → n ≡ 0 → s ≡ no-rows fault → Took (taken-sheet answer s l 0) l n (mapped report fault)
 took-rowless answer s fault l n none h =
     took _ l n (mapped report fault) (ap (λ m. left l m (mapped report fault)) none ∙ sym (taken-rowless answer s fault l 0 h))

@@ -18,7 +18,10 @@ number FieldCount = 20
 number Rates = 21
 number (Fleet refusal) = refusal-number refusal
 
--- 1: the bytes alone show it; 2: what they mean does; 3: the fleet has no place for the unit
+-- where a fault is found: 1 in the text, 2 in the row, 3 by the fleet
+abbrev pub fleet-layer : ℕ
+fleet-layer = 3
+
 abbrev pub layer : Reason → ℕ
 layer TooLong = 1
 layer NoLineFeed = 1
@@ -27,11 +30,11 @@ layer NotDigit = 1
 layer DigitCount = 1
 layer FieldCount = 2
 layer Rates = 2
-layer (Fleet refusal) = 3
+layer (Fleet refusal) = fleet-layer
 
--- five numbers in decimal, with commas between them
-abbrev pub five : ℕ → ℕ → ℕ → ℕ → ℕ → List ℕ
-five a b c d e = decimal a ++ (codes "," ++ (decimal b ++ (codes "," ++ (decimal c ++ (codes "," ++ (decimal d ++ (codes "," ++ decimal e)))))))
+-- a line of names, and a line of five numbers in decimal with commas between them
+abbrev pub written : ℕ → ℕ → ℕ → ℕ → ℕ → List ℕ
+written a b c d e = codes "layer,number,line,field,added\n" ++ (decimal a ++ (codes "," ++ (decimal b ++ (codes "," ++ (decimal c ++ (codes "," ++ (decimal d ++ (codes "," ++ decimal e))))))))
 
 -- what is told of a fault
 pub record Report : Type 0 where

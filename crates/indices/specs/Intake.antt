@@ -1,4 +1,4 @@
--- What intake makes of a ledger: one add for each row before the first fault, or for every row. Assumes nothing.
+-- What intake makes of a ledger: the rows are added from the top, until one is refused or the sheet has a fault or ends. Assumes nothing.
 use mathlib.Core.List.{List, [], _∷_}
 use mathlib.Core.Path.{_≡_}
 use Prim.Native.Nat.{ℕ, _+_}
@@ -12,7 +12,7 @@ use Rattle.fleet.specs.Ledger.{Ledger}
 use Rattle.indices.specs.declared.fault.Fault.{Fault}
 use Rattle.indices.specs.declared.unit_intake.Stopped.{Stopped}
 use Rattle.indices.specs.declared.row.Row.{Row}
-use Rattle.indices.specs.Fault.{Report, report}
+use Rattle.indices.specs.Fault.{Report, report, fleet-layer}
 use Rattle.indices.specs.Row.{states}
 use Rattle.indices.specs.Sheet.{Sheet, sheet}
 
@@ -31,9 +31,9 @@ after-row answer l row = after-add answer l (row .id) (row .«cap») (states row
 
 -- a row that the fleet refuses is a fault of the third layer, at its line
 abbrev pub refused-row : ℕ → ℕ → Report
-refused-row line number = record { layer = 3; number = number; line = line; field = 0 }
+refused-row line number = record { layer = fleet-layer; number = number; line = line; field = 0 }
 
--- all rows from here on are added, and then the sheet's own fault comes, if any; n units were added before
+-- the rows from here on, up to the first that the fleet refuses; where it takes all, the sheet's own fault comes, if any. n units were added before
 unfoldable pub taken : (ℕ → ℕ → ℕ) → List Row → Option Report → Ledger → ℕ → Intake
 taken answer [] fault l n = record { ledger = l; added = n; fault = fault }
 taken answer (row ∷ rows) fault l n =

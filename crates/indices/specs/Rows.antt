@@ -43,7 +43,7 @@ abbrev pub remaining : Rows → Sheet
 remaining rows = below (rows .columns) (rows .reader .line) (lines (rows .reader .rest .now))
 
 -- the columns are read, and the reader stands at the start of a line
-pub record Standing (rows : Rows) : Type 0 where
+pub record BetweenRows (rows : Rows) : Type 0 where
   pub start : AtStart (rows .reader)
   pub five : length (rows .columns) ≡ 5
 
@@ -52,5 +52,5 @@ pub record RowRead (was : Rows) (row : Row) (is : Rows) : Type 0 where
   pub rows : remaining was .rows ≡ row ∷ remaining is .rows
   pub fault : remaining was .fault ≡ remaining is .fault
   pub rates : row .rate + row .prate ≤ 999999
-  pub standing : Standing is
+  pub standing : BetweenRows is
   pub shorter : length (is .reader .rest .now) < length (was .reader .rest .now)

@@ -8,7 +8,7 @@ ghost use Rattle.std.specs.declared.result.Result.the-variants.{Ok, Err};
 ghost use Rattle.indices.specs.declared.names.Column.{Column};
 ghost use Rattle.indices.specs.Reader.{unread, AtStart};
 ghost use Rattle.indices.specs.Rows.{LineRead};
-ghost use Rattle.indices.specs.Sheet.{rowless, below};
+ghost use Rattle.indices.specs.Sheet.{no-rows, below};
 use crate::fault::Fault;
 use crate::names::COLUMNS;
 use crate::text::Reader;
@@ -17,7 +17,7 @@ use crate::value::parse;
 
 #[derive(Clone, Copy)]
 pub struct Values {
-    // the first of the line's values
+    // the first five values of the line
     pub at: [u32; COLUMNS],
     // how many values the line has
     pub count: usize,
@@ -42,7 +42,7 @@ impl Values {
 // The values of the next line, or none at the end of the sheet.
 pub(crate) fn read_values(reader: &mut Reader) -> Result<Option<Values>, Fault>
     requires { ⌜ AtStart (now reader) ⌝ }
-    ensures { λ r. ⌜ elim r [ Ok values ↦ LineRead (now (reader .entry)) values (now (reader .exit)) | Err fault ↦ ((columns : List Column) → below columns (now (reader .entry) .line) (unread (now (reader .entry))) ≡ rowless (Some fault)) ] ⌝ }
+    ensures { λ r. ⌜ elim r [ Ok values ↦ LineRead (now (reader .entry)) values (now (reader .exit)) | Err fault ↦ ((columns : List Column) → below columns (now (reader .entry) .line) (unread (now (reader .entry))) ≡ no-rows (Some fault)) ] ⌝ }
 {
     let mut values = Values {
         at: [0; COLUMNS],

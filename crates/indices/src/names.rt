@@ -7,13 +7,13 @@ ghost use Rattle.indices.specs.declared.fault.Reason.the-variants.{Names};
 ghost use Rattle.indices.specs.Names.{column, among, fresh};
 ghost use Rattle.indices.specs.Reader.{unread, AtStart};
 ghost use Rattle.indices.specs.Rows.{NamesRead};
-ghost use Rattle.indices.specs.Sheet.{rowless, text};
+ghost use Rattle.indices.specs.Sheet.{no-rows, text};
 use crate::fault::Fault;
 use crate::fault::Reason;
 use crate::text::Reader;
 use crate::text::Token;
 
-// each name stands once
+// A sheet has five columns.
 pub const COLUMNS: usize = 5;
 
 #[derive(Clone, Copy, PartialEq, Eq)]
@@ -69,7 +69,7 @@ fn fresh_column(bytes: &[u8], before: &[Column]) -> Option<Column>
 }
 
 // A fault of line 1, at the place of a name or at 0.
-fn wrong_name(place: u32) -> Fault
+fn names_fault(place: u32) -> Fault
     ensures { λ r. ⌜ r ≡ record { reason = Names; line = 1; field = place } ⌝ }
 {
     Fault {
@@ -83,7 +83,7 @@ fn wrong_name(place: u32) -> Fault
 pub(crate) fn read_names(reader: &mut Reader) -> Result<[Column; COLUMNS], Fault>
     requires start { ⌜ AtStart (now reader) ⌝ }
     requires line { ⌜ now reader .line ≡ 1 ⌝ }
-    ensures { λ r. ⌜ elim r [ Ok columns ↦ NamesRead (now (reader .entry)) columns (now (reader .exit)) | Err fault ↦ text (unread (now (reader .entry))) ≡ rowless (Some fault) ] ⌝ }
+    ensures { λ r. ⌜ elim r [ Ok columns ↦ NamesRead (now (reader .entry)) columns (now (reader .exit)) | Err fault ↦ text (unread (now (reader .entry))) ≡ no-rows (Some fault) ] ⌝ }
 {
     let mut columns = [Column::Id; COLUMNS];
     let mut count = 0;
@@ -91,7 +91,7 @@ pub(crate) fn read_names(reader: &mut Reader) -> Result<[Column; COLUMNS], Fault
         match reader.token()? {
             Token::Field { bytes, place, .. } => {
                 let Some(c) = fresh_column(bytes, &columns[0..count]) else {
-                    return Err(wrong_name(place));
+                    return Err(names_fault(place));
                 };
                 columns[count] = c;
                 count += 1;
@@ -102,7 +102,7 @@ pub(crate) fn read_names(reader: &mut Reader) -> Result<[Column; COLUMNS], Fault
         }
     }
     if count < COLUMNS {
-        Err(wrong_name(0))
+        Err(names_fault(0))
     } else {
         Ok(columns)
     }

@@ -10,10 +10,10 @@ use crate::names::ColumnPartialEq;
 use rounding::MILLION;
 use rounding::State;
 
-// the rates of a unit leave some weight to no outage
+// The rates of a unit leave some weight to no outage
 const MOST_RATES: u64 = 999_999;
 
-// a row gives at most this many states
+// A row gives at most this many states
 const STATES: usize = 3;
 
 #[derive(Clone, Copy)]
@@ -68,7 +68,7 @@ impl Row {
     }
 
     // Whether the rates can be those of a unit.
-    pub(crate) fn has_rates(&self) -> bool
+    pub(crate) fn rates_fit(&self) -> bool
         ensures { λ r. ⌜ r ≡ rates (now (self .entry)) ⌝ }
     {
         let sum = self.rate as u64 + self.prate as u64;

@@ -2,8 +2,8 @@
 ghost use mathlib.Core.Path.{_≡_};
 ghost use Rattle.std.specs.declared.option.Option.the-variants.{Some, None};
 ghost use Rattle.std.specs.declared.result.Result.the-variants.{Ok, Err};
-ghost use Rattle.indices.specs.Rows.{remaining, Standing, RowRead};
-ghost use Rattle.indices.specs.Sheet.{rowless, sheet};
+ghost use Rattle.indices.specs.Rows.{remaining, BetweenRows, RowRead};
+ghost use Rattle.indices.specs.Sheet.{no-rows, sheet};
 use crate::fault::Fault;
 use crate::fault::Reason;
 use crate::line::read_values;
@@ -13,6 +13,7 @@ use crate::names::read_names;
 use crate::row::Row;
 use crate::text::Reader;
 
+// A sheet has at most this many bytes.
 const MOST_BYTES: usize = 65_535;
 
 // The rows that are left of a sheet whose line 1 is read.
@@ -24,7 +25,7 @@ pub struct Rows<'a> {
 
 impl<'a> Rows<'a> {
     pub(crate) fn open(bytes: &'a [u8]) -> Result<Rows<'a>, Fault>
-        ensures { λ r. ⌜ elim r [ Ok rows ↦ (sheet (now (bytes .entry)) ≡ remaining rows) × Standing rows | Err fault ↦ sheet (now (bytes .entry)) ≡ rowless (Some fault) ] ⌝ }
+        ensures { λ r. ⌜ elim r [ Ok rows ↦ (sheet (now (bytes .entry)) ≡ remaining rows) × BetweenRows rows | Err fault ↦ sheet (now (bytes .entry)) ≡ no-rows (Some fault) ] ⌝ }
     {
         if bytes.len() > MOST_BYTES {
             return Err(Fault {
@@ -40,8 +41,8 @@ impl<'a> Rows<'a> {
 
     // The next row, or none where the sheet ends without a fault.
     pub(crate) fn next_row(&mut self) -> Result<Option<Row>, Fault>
-        requires { ⌜ Standing (now self) ⌝ }
-        ensures { λ r. ⌜ elim r [ Ok o ↦ elim o [ Some row ↦ RowRead (now (self .entry)) row (now (self .exit)) | None ↦ remaining (now (self .entry)) ≡ rowless None ] | Err fault ↦ remaining (now (self .entry)) ≡ rowless (Some fault) ] ⌝ }
+        requires { ⌜ BetweenRows (now self) ⌝ }
+        ensures { λ r. ⌜ elim r [ Ok o ↦ elim o [ Some row ↦ RowRead (now (self .entry)) row (now (self .exit)) | None ↦ remaining (now (self .entry)) ≡ no-rows None ] | Err fault ↦ remaining (now (self .entry)) ≡ no-rows (Some fault) ] ⌝ }
     {
         let line = self.reader.line;
         let Some(values) = read_values(&mut self.reader)? else {
@@ -55,7 +56,7 @@ impl<'a> Rows<'a> {
             });
         }
         let row = Row::new(line, &self.columns, &values.at);
-        if !row.has_rates() {
+        if !row.rates_fit() {
             return Err(Fault {
                 reason: Reason::Rates,
                 line,

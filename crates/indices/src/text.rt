@@ -51,9 +51,9 @@ fn field_length(bytes: &[u8]) -> usize
 #[derive(Drop)]
 pub struct Reader<'a> {
     rest: &'a [u8],
-    // of the line that is being read, from 1
+    // the line that is being read, from 1
     pub line: u32,
-    // of the field that was read last in that line, from 1; 0 before its first
+    // the field of that line that was read last, from 1; 0 before the first
     place: u32,
     // the line feed of that line is read
     ended: bool,

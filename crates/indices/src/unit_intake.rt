@@ -6,9 +6,9 @@ ghost use Rattle.std.specs.Options.{mapped};
 ghost use Rattle.std.specs.declared.option.Option.the-variants.{Some, None};
 ghost use Rattle.std.specs.declared.result.Result.the-variants.{Ok, Err};
 ghost use Rattle.fleet.specs.Fleets.{ledger-of};
-ghost use Rattle.indices.specs.Fault.{report, layer, number, five};
+ghost use Rattle.indices.specs.Fault.{report, layer, number, written};
 ghost use Rattle.indices.specs.Intake.{row-refusal, after-row, refused-row, taken-sheet, told, Took, intake as intake-of, Answers, added-by};
-ghost use Rattle.indices.specs.Rows.{remaining, Standing};
+ghost use Rattle.indices.specs.Rows.{remaining, BetweenRows};
 use crate::fault::Fault;
 use crate::fault::FaultDebug;
 use crate::fault::FaultEq;
@@ -27,9 +27,9 @@ pub struct Stopped {
     pub added: u32,
 }
 
-// The five numbers that are told: layer, number, line, field and how many were added.
+// Two lines: the names of the five numbers, and the numbers.
 pub impl fmt::Display for Stopped as StoppedDisplay {
-    ghost shown = { λ s. Some (five (layer (s .fault .reason)) (number (s .fault .reason)) (s .fault .line) (s .fault .field) (s .added)) };
+    ghost shown = { λ s. Some (written (layer (s .fault .reason)) (number (s .fault .reason)) (s .fault .line) (s .fault .field) (s .added)) };
 
     fn fmt<W: fmt::Write>(&self, f: &mut fmt::Formatter<W>) -> fmt::Result {
         let layer = self.fault.layer();
@@ -37,7 +37,10 @@ pub impl fmt::Display for Stopped as StoppedDisplay {
         let line = self.fault.line;
         let field = self.fault.field;
         let added = self.added;
-        write!(f, "{layer},{number},{line},{field},{added}")
+        write!(
+            f,
+            "layer,number,line,field,added\n{layer},{number},{line},{field},{added}"
+        )
     }
 }
 
@@ -65,7 +68,7 @@ fn take_rows<R: Rounding>(
     rows: &mut Rows,
     added: &mut u32,
 ) -> Result<(), Fault>
-    requires standing { ⌜ Standing (now rows) ⌝ }
+    requires standing { ⌜ BetweenRows (now rows) ⌝ }
     requires none { ⌜ now added ≡ 0 ⌝ }
     ensures { λ r. ⌜ Took (taken-sheet (answer (now (rule .entry))) (remaining (now (rows .entry))) (ledger-of (now (fleet .entry))) 0) (ledger-of (now (fleet .exit))) (now (added .exit)) (told r) ⌝ }
 {

@@ -11,6 +11,7 @@ use crate::byte::kind_of;
 use crate::fault::Fault;
 use crate::fault::Reason;
 
+// A value has at most this many digits.
 const MOST_DIGITS: usize = 7;
 
 fn all_digits(bytes: &[u8]) -> bool

@@ -1,16 +1,14 @@
 -- Sums of weight × entry. Assumes nothing.
-use mathlib.Core.Path.{_≡_, refl, sym, ap, subst, _∙_}
+use mathlib.Core.Path.{_≡_, refl}
 use mathlib.Core.List.{List, [], _∷_}
-use mathlib.Core.Logic.{⊎-elim}
 use Prim.Native.Nat.{ℕ, _+_, _-_, _*_, _≤_, _<_}
 use native.Mathlib.Nat.{add-mul, mul-le-mul-left}
 use native.Mathlib.Omega.{arith}
 use lib.Dec.{ltb}
 use lib.ListN.{length, getD, take}
-use Rattle.std.specs.shelf.Lists.{sumBy}
 use Rattle.std.proofs.shelf.Sums.{sumBy-cons, sumBy-more, sumBy-take-le}
-use Rattle.std.proofs.shelf.Tests.{cond-both, ltb-true, ltb-false}
-use Rattle.rounding.specs.Table.{full, back}
+use Rattle.std.proofs.shelf.Tests.{cond-both}
+use Rattle.rounding.specs.Table.{full, entry-before}
 use Rattle.rounding.specs.Mixture.{million, weights, amount, mixture}
 use Rattle.rounding.specs.declared.state.State.{State}
 
@@ -22,7 +20,7 @@ pub weights-cons : (s : State) (states : List State) → weights (s ∷ states) 
 unfolding weights
 weights-cons s states = sumBy-cons _ s states
 
-pub amount-cons : (s : State) (states : List State) (entries : List ℕ) (k : ℕ) → amount (s ∷ states) entries k ≡ s .weight * back entries k (s .outage) + amount states entries k
+pub amount-cons : (s : State) (states : List State) (entries : List ℕ) (k : ℕ) → amount (s ∷ states) entries k ≡ s .weight * entry-before entries k (s .outage) + amount states entries k
 unfolding amount
 amount-cons s states entries k = sumBy-cons _ s states
 
@@ -42,27 +40,23 @@ pub weights-none : weights [] ≡ 0
 unfolding weights
 weights-none = refl
 
-pub amount-more : (states : List State) (entries : List ℕ) (k i : ℕ) (d : State) → i < length states → amount (take (i + 1) states) entries k ≡ amount (take i states) entries k + getD states i d .weight * back entries k (getD states i d .outage)
+pub amount-more : (states : List State) (entries : List ℕ) (k i : ℕ) (d : State) → i < length states → amount (take (i + 1) states) entries k ≡ amount (take i states) entries k + getD states i d .weight * entry-before entries k (getD states i d .outage)
 unfolding amount
 amount-more states entries k i d h = sumBy-more _ states i d h
-
-pub weights-more : (states : List State) (i : ℕ) (d : State) → i < length states → weights (take (i + 1) states) ≡ weights (take i states) + getD states i d .weight
-unfolding weights
-weights-more states i d h = sumBy-more _ states i d h
 
 pub weights-take : (states : List State) (i : ℕ) → weights (take i states) ≤ weights states
 unfolding weights
 weights-take states i = sumBy-take-le _ states i
 
 module _ (entries : List ℕ) (fits : (i : ℕ) → getD entries i 0 ≤ full) where
-  pub back-le : (k outage : ℕ) → back entries k outage ≤ full
-  back-le k outage = cond-both (ltb k outage) full (getD entries (k - outage) 0) (λ e. e ≤ full) (λ _. omega arith) (λ _. fits (k - outage))
+  pub before-le : (k outage : ℕ) → entry-before entries k outage ≤ full
+  before-le k outage = cond-both (ltb k outage) full (getD entries (k - outage) 0) (λ e. e ≤ full) (λ _. omega arith) (λ _. fits (k - outage))
 
   pub amount-le : (states : List State) (k : ℕ) → amount states entries k ≤ weights states * full
   amount-le [] k = rw (amount-none, weights-none) (omega arith)
   amount-le (s ∷ states) k =
       let rest = amount-le states k in
-      let one = mul-le-mul-left (s .weight) (back-le k (s .outage)) in
+      let one = mul-le-mul-left (s .weight) (before-le k (s .outage)) in
       rw (amount-cons, weights-cons) (omega (arith, add-mul (s .weight) (weights states) full))
 
   -- a sum over the first states fits 64 bits

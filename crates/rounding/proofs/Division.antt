@@ -1,13 +1,13 @@
 -- A rule that answers the quotient, or one more by the remainder, keeps both laws. Assumes nothing.
-use mathlib.Core.Path.{_≡_, refl, sym, ap, _∙_}
+use mathlib.Core.Path.{_≡_, refl, ap}
 use mathlib.Core.Bool.{Bool, true, false, cond}
-use mathlib.Core.Logic.{⊎-elim, inl, inr}
+use mathlib.Core.Logic.{⊎-elim}
 use Prim.Native.Nat.{ℕ, _+_, _*_, _/_, _%_, _≤_, _<_}
 use native.Mathlib.Nat.{div-add-mod', mod-lt, add-mul, mul-le-mul-right}
 use native.Mathlib.Omega.{arith}
-use lib.Dec.{eqb, leb, ltb}
-use Rattle.std.proofs.shelf.Tests.{cond-false, cond-both, ne-eqb, cases-lt, cases-bool, cond-true, false≢true, ltb-true, lt-ltb, leb-true, le-leb}
-use Rattle.rounding.specs.Rule.{Asked, Near, Close, Rising, divided, down, up, nearest}
+use lib.Dec.{eqb}
+use Rattle.std.proofs.shelf.Tests.{cond-false, ne-eqb, cases-lt, false≢true, ltb-true, lt-ltb, leb-true, le-leb}
+use Rattle.rounding.specs.Rule.{Near, Close, Rising, divided, down, up, nearest}
 
 -- the quotient with or without one more
 unfoldable bumped : Bool → ℕ → ℕ

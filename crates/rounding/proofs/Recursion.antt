@@ -9,36 +9,35 @@ use native.Mathlib.Omega.{arith}
 use lib.Dec.{ltb}
 use lib.ListN.{length, getD, set, length-set}
 use lib.Seq.{getD-set-same, getD-set-other}
-use Rattle.std.specs.shelf.Lists.{All}
 use Rattle.std.proofs.shelf.Counted.{fill-by-all}
 use Rattle.std.proofs.shelf.Lists.{getD-past}
 use Rattle.std.proofs.shelf.Tests.{cases-lt, cases-eq, cond-true, cond-false, lt-ltb, le-ltb}
-use Rattle.rounding.specs.Rule.{Asked, Near, Close, Rising}
-use Rattle.rounding.specs.Table.{full, back, Falling, Zeros, Within}
+use Rattle.rounding.specs.Rule.{Asked, Close, Rising}
+use Rattle.rounding.specs.Table.{full, entry-before, Falling, Zeros, Within}
 use Rattle.rounding.specs.Mixture.{million, weights, Outages, amount, mixture}
 use Rattle.rounding.specs.Adding.{added}
 use Rattle.rounding.specs.declared.state.State.{State}
 use Rattle.rounding.proofs.Amounts.{amount-cons, amount-none, amount-le, mixture-cons, mixture-none, weights-cons, weights-none}
 
 -- a place at or above 0, and one below
-back-at : (entries : List ℕ) (k outage : ℕ) → outage ≤ k → back entries k outage ≡ getD entries (k - outage) 0
-back-at entries k outage h = cond-false (ltb k outage) full _ (le-ltb k outage h)
+before-at : (entries : List ℕ) (k outage : ℕ) → outage ≤ k → entry-before entries k outage ≡ getD entries (k - outage) 0
+before-at entries k outage h = cond-false (ltb k outage) full _ (le-ltb k outage h)
 
-back-below : (entries : List ℕ) (k outage : ℕ) → k < outage → back entries k outage ≡ full
-back-below entries k outage h = cond-true (ltb k outage) full _ (lt-ltb k outage h)
+before-below : (entries : List ℕ) (k outage : ℕ) → k < outage → entry-before entries k outage ≡ full
+before-below entries k outage h = cond-true (ltb k outage) full _ (lt-ltb k outage h)
 
 -- the amount at k needs no entry above k
-back-agrees : (a b : List ℕ) (k outage : ℕ) → ((j : ℕ) → j ≤ k → getD a j 0 ≡ getD b j 0) → back a k outage ≡ back b k outage
-back-agrees a b k outage same =
+before-agrees : (a b : List ℕ) (k outage : ℕ) → ((j : ℕ) → j ≤ k → getD a j 0 ≡ getD b j 0) → entry-before a k outage ≡ entry-before b k outage
+before-agrees a b k outage same =
     ⊎-elim
-    (λ h. back-below a k outage h ∙ sym (back-below b k outage h))
-    (λ h. back-at a k outage h ∙ same (k - outage) (omega arith) ∙ sym (back-at b k outage h))
+    (λ h. before-below a k outage h ∙ sym (before-below b k outage h))
+    (λ h. before-at a k outage h ∙ same (k - outage) (omega arith) ∙ sym (before-at b k outage h))
     (cases-lt k outage)
 
 pub amount-agrees : (states : List State) (a b : List ℕ) (k : ℕ) → ((j : ℕ) → j ≤ k → getD a j 0 ≡ getD b j 0) → amount states a k ≡ amount states b k
 amount-agrees [] a b k same = amount-none a k ∙ sym (amount-none b k)
 amount-agrees (s ∷ states) a b k same =
-    let here = back-agrees a b k (s .outage) same in
+    let here = before-agrees a b k (s .outage) same in
     let rest = amount-agrees states a b k same in
     rw (amount-cons s states a k, amount-cons s states b k, here, rest)
 
@@ -49,11 +48,11 @@ module _ (old : List ℕ) (certain : getD old 0 0 ≡ full) (falling : Falling o
   entry-le (suc k) = let less = rw add-one at (falling k) in let rest = entry-le k in omega arith
 
   -- a place below 0 reads as place 0 does
-  back-is : (k outage : ℕ) → back old k outage ≡ getD old (k - outage) 0
-  back-is k outage =
+  before-is : (k outage : ℕ) → entry-before old k outage ≡ getD old (k - outage) 0
+  before-is k outage =
       ⊎-elim
-      (λ h. let none : 0 ≡ k - outage = omega arith in back-below old k outage h ∙ sym certain ∙ ap (λ j. getD old j 0) none)
-      (back-at old k outage)
+      (λ h. let none : 0 ≡ k - outage = omega arith in before-below old k outage h ∙ sym certain ∙ ap (λ j. getD old j 0) none)
+      (before-at old k outage)
       (cases-lt k outage)
 
   pub amount-certain : (states : List State) → amount states old 0 ≡ weights states * full
@@ -61,11 +60,11 @@ module _ (old : List ℕ) (certain : getD old 0 0 ≡ full) (falling : Falling o
   amount-certain (s ∷ states) =
       let rest = amount-certain states in
       let none : 0 - s .outage ≡ 0 = omega arith in
-      rw (amount-cons, weights-cons, back-is 0 (s .outage), none, certain) (omega (arith, add-mul (s .weight) (weights states) full))
+      rw (amount-cons, weights-cons, before-is 0 (s .outage), none, certain) (omega (arith, add-mul (s .weight) (weights states) full))
 
-  back-falls : (k outage : ℕ) → back old (k + 1) outage ≤ back old k outage
-  back-falls k outage =
-      rw (back-is (k + 1) outage, back-is k outage)
+  before-falls : (k outage : ℕ) → entry-before old (k + 1) outage ≤ entry-before old k outage
+  before-falls k outage =
+      rw (before-is (k + 1) outage, before-is k outage)
       (⊎-elim
       (λ h. let low : k + 1 - outage ≡ k - outage = omega arith in rw low (le-refl _))
       (λ h. let up : k + 1 - outage ≡ k - outage + 1 = omega arith in rw up (falling (k - outage)))
@@ -75,7 +74,7 @@ module _ (old : List ℕ) (certain : getD old 0 0 ≡ full) (falling : Falling o
   amount-falls [] k = rw (amount-none old (k + 1), amount-none old k) (omega arith)
   amount-falls (s ∷ states) k =
       let rest = amount-falls states k in
-      let here = mul-le-mul-left (s .weight) (back-falls k (s .outage)) in
+      let here = mul-le-mul-left (s .weight) (before-falls k (s .outage)) in
       rw (amount-cons s states old (k + 1), amount-cons s states old k) (omega arith)
 
   amount-zero : (m most : ℕ) (states : List State) → Outages most states → Zeros m old → (k : ℕ) → m + most < k → amount states old k ≡ 0
@@ -83,7 +82,7 @@ module _ (old : List ℕ) (certain : getD old 0 0 ≡ full) (falling : Falling o
   amount-zero m most (s ∷ states) few zeros k h =
       let low = few .0 in
       let rest = amount-zero m most states (few .1) zeros k h in
-      let here : back old k (s .outage) ≡ 0 = back-is k (s .outage) ∙ zeros (k - s .outage) (omega arith) in
+      let here : entry-before old k (s .outage) ≡ 0 = before-is k (s .outage) ∙ zeros (k - s .outage) (omega arith) in
       rw (amount-cons s states old k, here, rest) (omega arith)
 
   -- a mixture of entries is as near to the mixture of a sequence as each entry is to its term
@@ -93,14 +92,14 @@ module _ (old : List ℕ) (certain : getD old 0 0 ≡ full) (falling : Falling o
     amount-over (s ∷ states) =
         let rest = amount-over states in
         let here = mul-le-mul-left (s .weight) (within .over (k - s .outage) (omega arith)) in
-        rw (amount-cons, mixture-cons, weights-cons, back-is k (s .outage)) (omega arith)
+        rw (amount-cons, mixture-cons, weights-cons, before-is k (s .outage)) (omega arith)
 
     amount-under : (states : List State) → mixture states x k ≤ amount states old k * scale + weights states * (t * scale)
     amount-under [] = rw (amount-none, mixture-none, weights-none) (omega arith)
     amount-under (s ∷ states) =
         let rest = amount-under states in
         let here = mul-le-mul-left (s .weight) (within .under (k - s .outage) (omega arith)) in
-        rw (amount-cons, mixture-cons, weights-cons, back-is k (s .outage)) (omega arith)
+        rw (amount-cons, mixture-cons, weights-cons, before-is k (s .outage)) (omega arith)
 
 -- the table once the places from k on are written
 pub record Partly (answer : ℕ → ℕ → ℕ) (states : List State) (old new : List ℕ) (k : ℕ) : Type 0 where

@@ -2,7 +2,7 @@
 use mathlib.Core.List.{List}
 use Prim.Native.Nat.{ℕ, _-_, _*_, _≤_}
 use Rattle.std.specs.shelf.Lists.{sumBy, All}
-use Rattle.rounding.specs.Table.{back}
+use Rattle.rounding.specs.Table.{entry-before}
 use Rattle.rounding.specs.declared.state.State.{State}
 
 -- certainty, in millionths
@@ -19,7 +19,7 @@ Outages most states = All (λ s. s .outage ≤ most) states
 
 -- the sum of weight × entry at place k − outage, over the states
 unfoldable pub amount : List State → List ℕ → ℕ → ℕ
-amount states entries k = sumBy (λ s. s .weight * back entries k (s .outage)) states
+amount states entries k = sumBy (λ s. s .weight * entry-before entries k (s .outage)) states
 
 -- the same mixture of any sequence; its place 0 stands for those below
 unfoldable pub mixture : List State → (ℕ → ℕ) → ℕ → ℕ

@@ -11,8 +11,8 @@ abbrev pub full : ℕ
 full = 1_000_000_000_000
 
 -- the entry at place k − outage; below place 0 all is certain
-abbrev pub back : List ℕ → ℕ → ℕ → ℕ
-back entries k outage = cond (ltb k outage) full (getD entries (k - outage) 0)
+abbrev pub entry-before : List ℕ → ℕ → ℕ → ℕ
+entry-before entries k outage = cond (ltb k outage) full (getD entries (k - outage) 0)
 
 -- the entries never rise from place to place
 abbrev pub Falling : List ℕ → Type 0

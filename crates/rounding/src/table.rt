@@ -1,9 +1,8 @@
 // A capacity outage table as a slice of entries, and the recursion that adds a unit to it.
 ghost use mathlib.Core.Path.{_≡_};
-ghost use mathlib.Core.List.{List};
 ghost use Prim.Native.Nat.{ℕ, _+_, _*_, _<_, _≤_};
 ghost use lib.ListN.{length, getD};
-ghost use Rattle.rounding.specs.Table.{full, back as entry-back, Falling, Zeros, Within};
+ghost use Rattle.rounding.specs.Table.{full, entry-before, Falling, Zeros, Within};
 ghost use Rattle.rounding.specs.Mixture.{million, weights, Outages, amount as amount-of, mixture};
 ghost use Rattle.rounding.specs.Adding.{added};
 use crate::rule::Rounding;
@@ -16,9 +15,9 @@ pub const FULL: u64 = 1_000_000_000_000;
 pub const MILLION: u32 = 1_000_000;
 
 // The entry at place k − outage; a place below 0 counts as certain.
-fn back(entries: &[u64], k: usize, outage: u32) -> u64
+fn entry_before(entries: &[u64], k: usize, outage: u32) -> u64
     requires { ⌜ k < length (now entries) ⌝ }
-    ensures { λ r. ⌜ r ≡ entry-back (now (entries .entry)) k outage ⌝ }
+    ensures { λ r. ⌜ r ≡ entry-before (now (entries .entry)) k outage ⌝ }
 {
     let outage = outage as usize;
     if k < outage {
@@ -38,7 +37,7 @@ fn amount(states: &[State], entries: &[u64], k: usize) -> u64
 {
     let mut sum: u64 = 0;
     for state in states {
-        sum += u64::from(state.weight) * back(entries, k, state.outage);
+        sum += u64::from(state.weight) * entry_before(entries, k, state.outage);
     }
     sum
 }

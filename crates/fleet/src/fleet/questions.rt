@@ -1,7 +1,6 @@
 // What can be asked of a fleet. A question alters nothing.
 ghost use mathlib.Core.Path.{_≡_};
 ghost use Prim.Native.Nat.{_≤_};
-ghost use lib.ListN.{getD};
 ghost use Rattle.fleet.specs.Refusals.{Outcome};
 ghost use Rattle.fleet.specs.Units.{capacity as service-capacity, greatest-outage};
 ghost use Rattle.fleet.specs.LookUp.{look-up};

@@ -1,4 +1,4 @@
-use mathlib.Core.Path.{_≡_, sym, _∙_}
+use mathlib.Core.Path.{sym, _∙_}
 use Rattle.std.proofs.shelf.Tests.{and-left}
 use Rattle.fleet.proofs.Lawful.{later-more, later-all, and-true}
 use Rattle.fleet.proofs.states.later.Needs as need

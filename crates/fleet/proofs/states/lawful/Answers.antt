@@ -1,8 +1,6 @@
-use mathlib.Core.Path.{_≡_, sym, ap, _∙_}
-use Prim.Native.Nat.{_≤_, _<_}
+use mathlib.Core.Path.{sym, ap, _∙_}
 use borrow.Author.Needs.{needs}
 use lib.Dec.{eqb}
-use lib.ListN.{length}
 use Rattle.std.proofs.shelf.Tests.{and-left, and-right, lt-leb, le-leb}
 use Rattle.rounding.specs.declared.state.State.{State}
 use Rattle.fleet.proofs.Lawful.{lawful-none, lawful-apart, and-true}

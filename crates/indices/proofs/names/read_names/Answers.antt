@@ -8,7 +8,7 @@ use Rattle.std.specs.declared.result.Result.the-variants.{Ok}
 use Rattle.std.proofs.shelf.Results.{err-from-errBy}
 use Rattle.indices.specs.Names.{column, fresh}
 use Rattle.indices.specs.Reader.{FieldRead, LineEnded, Reads}
-use Rattle.indices.specs.Sheet.{rowless}
+use Rattle.indices.specs.Sheet.{no-rows}
 use Rattle.indices.proofs.Naming.{naming-none, naming-wrong, naming-room, naming-more, naming-short, naming-all, naming-last, naming-on}
 use Rattle.indices.proofs.names.read_names.Needs as need
 use Rattle.indices.proofs.names.read_names.Needs.{In-Field, In-LineEnd, In-Some}
@@ -43,7 +43,7 @@ some c = naming-room _ _ (c .token .last .self) _ _ (c .loop-bytes .inv) _ _ _ (
 pub returns-in-rest : need.returns-in-rest
 returns-in-rest c =
     let bad = ap (λ n. fresh (take n (c .loop-bytes .columns)) (column (c .in-Field .bytes .now))) (sym (sub-zero _)) ∙ sym (c .in-rest .ensures tt) in
-    naming-wrong _ _ (c .token .last .self) _ _ (c .loop-bytes .inv) _ _ _ (read (need.at·returns-in-rest c .In-Field)) bad ∙ ap (λ f. rowless (Some f)) (sym (c .wrong-name .ensures))
+    naming-wrong _ _ (c .token .last .self) _ _ (c .loop-bytes .inv) _ _ _ (read (need.at·returns-in-rest c .In-Field)) bad ∙ ap (λ f. no-rows (Some f)) (sym (c .names-fault .ensures))
 
 pub index-columns-count : need.index-columns-count
 index-columns-count c = some c
@@ -64,7 +64,7 @@ unreachable-requires c κs =
 
 pub returns-then-count-lt-COLUMNS : need.returns-then-count-lt-COLUMNS
 returns-then-count-lt-COLUMNS c =
-    naming-short _ _ _ _ _ (c .loop-bytes .inv) (ended (need.at·returns-then-count-lt-COLUMNS c .In-LineEnd)) (c .if-count-lt-COLUMNS .taken) ∙ ap (λ f. rowless (Some f)) (sym (c .wrong-name-then-count-lt-COLUMNS .ensures))
+    naming-short _ _ _ _ _ (c .loop-bytes .inv) (ended (need.at·returns-then-count-lt-COLUMNS c .In-LineEnd)) (c .if-count-lt-COLUMNS .taken) ∙ ap (λ f. no-rows (Some f)) (sym (c .names-fault-then-count-lt-COLUMNS .ensures))
 
 pub returns-else-count-lt-COLUMNS : need.returns-else-count-lt-COLUMNS
 returns-else-count-lt-COLUMNS c =

@@ -1,4 +1,4 @@
-use mathlib.Core.Path.{_≡_, sym}
+use mathlib.Core.Path.{sym}
 use Rattle.fleet.specs.Fleets.{ledger-of}
 use Rattle.indices.specs.Sheet.{sheet}
 use Rattle.indices.proofs.Taking.{growth}

@@ -1,16 +1,10 @@
-use mathlib.Core.Path.{_≡_, refl, sym, ap, subst, _∙_}
-use mathlib.Core.List.{List}
-use Prim.Native.Nat.{ℕ, _+_}
-use native.Mathlib.Nat.{le-refl}
+use mathlib.Core.Path.{sym, ap, _∙_}
 use native.Mathlib.Omega.{arith}
-use lib.ListN.{length}
-use Rattle.std.specs.declared.option.Option.the-variants.{Some, None}
 use Rattle.std.proofs.shelf.Results.{err-from-errBy}
 use Rattle.fleet.specs.Fleets.{ledger-of}
-use Rattle.indices.specs.Fault.{report}
-use Rattle.indices.specs.Intake.{Took, told, taken-sheet}
+use Rattle.indices.specs.Intake.{taken-sheet}
 use Rattle.indices.specs.Rows.{remaining, RowRead}
-use Rattle.indices.proofs.Taking.{Going, taken-rowless, taken-accepted, taken-refused, took, some-row, no-row}
+use Rattle.indices.proofs.Taking.{taken-rowless, taken-accepted, taken-refused, took, some-row, no-row}
 use Rattle.indices.proofs.unit_intake.take_rows.Given as given
 use Rattle.indices.proofs.unit_intake.take_rows.Needs as need
 use Rattle.indices.proofs.unit_intake.take_rows.Needs.{In-Some}

@@ -8,12 +8,12 @@ use Rattle.rounding.proofs.Amounts.{amount-none, amount-more, amount-fits}
 use Rattle.rounding.proofs.table.amount.Needs as need
 
 -- the sum with one more term
-next : (c : need.After-back) → c .loop-state .sum + c .from .result * c .back .result ≡ amount (take (c .loop-state .state-index + 1) (c .args .states .now)) (c .args .entries .now) (c .args .k)
+next : (c : need.After-entry-before) → c .loop-state .sum + c .from .result * c .entry-before .result ≡ amount (take (c .loop-state .state-index + 1) (c .args .states .now)) (c .args .entries .now) (c .args .k)
 next c =
     let more = amount-more (c .args .states .now) (c .args .entries .now) (c .args .k) (c .loop-state .state-index) _ (c .loop-state-test .taken) in
-    rw (c .loop-state .inv, c .from .ensures, c .back .ensures) (sym more)
+    rw (c .loop-state .inv, c .from .ensures, c .entry-before .ensures) (sym more)
 
-fits : (c : need.After-back) → c .loop-state .sum + c .from .result * c .back .result ≤ 1_000_000_000_000_000_000
+fits : (c : need.After-entry-before) → c .loop-state .sum + c .from .result * c .entry-before .result ≤ 1_000_000_000_000_000_000
 fits c = rw (next c) (amount-fits (c .args .entries .now) (c .pre .entries-fit) (c .args .states .now) (c .args .k) (c .loop-state .state-index + 1) (c .pre .shares))
 
 pub mul-sum : need.mul-sum

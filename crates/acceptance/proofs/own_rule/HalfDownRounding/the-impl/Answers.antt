@@ -1,6 +1,5 @@
 use Prim.Native.Nat.{_*_}
 use native.Mathlib.Omega.{arith}
-use lib.Dec.{ltb}
 use Rattle.std.proofs.shelf.Tests.{ltb-true, lt-ltb}
 use Rattle.rounding.proofs.Division.{divided-close, divided-rising}
 use Rattle.acceptance.proofs.own_rule.HalfDownRounding.the-impl.Needs as need

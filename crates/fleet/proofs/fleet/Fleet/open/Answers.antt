@@ -1,4 +1,4 @@
-use mathlib.Core.Path.{_≡_, refl, ap, subst, sym, _∙_}
+use mathlib.Core.Path.{refl, ap, subst, sym, _∙_}
 use native.Mathlib.Omega.{arith}
 use Rattle.rounding.specs.Table.{Zeros}
 use Rattle.fleet.specs.Ledger.{open-table}

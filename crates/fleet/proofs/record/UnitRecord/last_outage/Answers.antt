@@ -1,4 +1,4 @@
-use mathlib.Core.Path.{_≡_, sym, ap, _∙_}
+use mathlib.Core.Path.{sym, ap, _∙_}
 use Rattle.std.proofs.shelf.Tests.{ltb-true, ltb-false}
 use Rattle.fleet.specs.States.{last-outage}
 use Rattle.fleet.proofs.Lawful.{last-none, last-at}

@@ -1,11 +1,10 @@
-use mathlib.Core.Path.{_≡_, ap, _∙_}
-use Prim.Native.Nat.{_+_, _≤_, _<_}
+use mathlib.Core.Path.{ap, _∙_}
+use Prim.Native.Nat.{_<_}
 use native.Mathlib.Omega.{arith}
 use lib.ListN.{length, length-set}
 use Rattle.fleet.specs.Units.{unit-of, all-lawful, registered-capacity}
 use Rattle.fleet.specs.Registers.{units-of}
 use Rattle.fleet.specs.declared.record.Share.the-variants.{Registered}
-use Rattle.fleet.specs.declared.record.UnitRecord.{UnitRecord}
 use Rattle.fleet.specs.declared.register.Register.{Register}
 use Rattle.fleet.proofs.Listing.{length-listed, listed-push, lawful-push, total-push}
 use Rattle.fleet.proofs.register.Register.push.Needs as need

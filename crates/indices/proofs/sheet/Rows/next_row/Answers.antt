@@ -23,14 +23,14 @@ unfolding after
 returns-then-values-ne-COLUMNS c =
     let d = need.at·returns-then-values-ne-COLUMNS c .In-Some in not-five (c .args .self .now) (after d) _ (c .pre) refl (read d) (c .if-values-ne-COLUMNS .taken)
 
-pub returns-then-not-has-rates : need.returns-then-not-has-rates
+pub returns-then-not-rates-fit : need.returns-then-not-rates-fit
 unfolding after
-returns-then-not-has-rates c =
-    let d = need.at·returns-then-not-has-rates c .In-Some in
-    not-rates (c .args .self .now) (after d) _ (c .pre) refl (read d) (c .if-values-ne-COLUMNS .left) _ (c .new-row .ensures) (sym (c .if-not-has-rates .ensures tt))
+returns-then-not-rates-fit c =
+    let d = need.at·returns-then-not-rates-fit c .In-Some in
+    not-rates (c .args .self .now) (after d) _ (c .pre) refl (read d) (c .if-values-ne-COLUMNS .left) _ (c .new-row .ensures) (sym (c .if-not-rates-fit .ensures tt))
 
 pub returns : need.returns
 unfolding after
 returns c =
     let d = need.at·returns c .In-Some in
-    row-read (c .args .self .now) (after d) _ (c .pre) refl (read d) (c .if-values-ne-COLUMNS .left) _ (c .new-row .ensures) (sym (c .if-not-has-rates .ensures tt))
+    row-read (c .args .self .now) (after d) _ (c .pre) refl (read d) (c .if-values-ne-COLUMNS .left) _ (c .new-row .ensures) (sym (c .if-not-rates-fit .ensures tt))
