@@ -7,12 +7,14 @@ use lib.ListN.{length}
 use Rattle.std.specs.declared.option.Option.the-variants.{None}
 use Rattle.std.proofs.shelf.Counted.{length-map-counting}
 use Rattle.std.proofs.shelf.Tests.{not-false, ltb-false}
+use Rattle.rounding.specs.Tolerance.{raised}
 use Rattle.rounding.specs.Adding.{added}
 use Rattle.rounding.specs.declared.state.State.{State}
 use Rattle.fleet.specs.States.{lawful, last-outage}
 use Rattle.fleet.specs.Units.{GeneratingUnit, new-unit, greatest-outage}
 use Rattle.fleet.specs.Ledger.{Ledger}
-use Rattle.fleet.specs.Adding.{identity-refusal, capacity-refusal, unit-refusal, tolerance-refusal, raised, add-refusal, after-add}
+use Rattle.fleet.specs.Limits.{tolerance-refusal}
+use Rattle.fleet.specs.Adding.{identity-refusal, capacity-refusal, unit-refusal, add-refusal, after-add}
 use Rattle.fleet.specs.declared.record.Share.the-variants.{Outage}
 use Rattle.fleet.specs.declared.refusal.Refusal.the-variants.{States, Tolerance}
 use Rattle.fleet.proofs.Refusing.{accepted, both-accepted, unless-accepted}

@@ -5,6 +5,7 @@ use Prim.Native.Nat.{ℕ, _+_}
 use lib.Dec.{leb, ltb}
 use lib.ListN.{length}
 use Rattle.std.specs.declared.option.Option.{Option}
+use Rattle.rounding.specs.Tolerance.{raised}
 use Rattle.rounding.specs.Adding.{added}
 use Rattle.rounding.specs.declared.state.State.{State}
 use Rattle.fleet.specs.Refusals.{first, refused-if, unless}
@@ -12,7 +13,8 @@ use Rattle.fleet.specs.States.{lawful}
 use Rattle.fleet.specs.Units.{GeneratingUnit, new-unit, registered-capacity}
 use Rattle.fleet.specs.LookUp.{registered}
 use Rattle.fleet.specs.Ledger.{Ledger}
-use Rattle.fleet.specs.declared.refusal.Refusal.the-variants.{Identity, Capacity, States, Registered, Full, TotalCapacity, Tolerance}
+use Rattle.fleet.specs.Limits.{tolerance-refusal}
+use Rattle.fleet.specs.declared.refusal.Refusal.the-variants.{Identity, Capacity, States, Registered, Full, TotalCapacity}
 
 -- the identity is not one of 1 to 65,535
 abbrev pub identity-refusal : ℕ → Option ℕ
@@ -37,14 +39,6 @@ full-refusal units = refused-if (leb 64 (length units)) Full
 -- all registered units, in service or out, would come to more than 1,000 steps
 abbrev pub total-refusal : List GeneratingUnit → ℕ → Option ℕ
 total-refusal units capacity = refused-if (ltb 1000 (registered-capacity units + capacity)) TotalCapacity
-
--- the tolerance would come to more than 1,000,000
-abbrev pub tolerance-refusal : ℕ → Option ℕ
-tolerance-refusal tolerance = refused-if (ltb 1000000 tolerance) Tolerance
-
--- each rounding of a whole table adds one part to the tolerance
-abbrev pub raised : ℕ → ℕ
-raised tolerance = tolerance + 1
 
 -- what the unit itself breaks
 abbrev pub unit-refusal : ℕ → ℕ → List State → Option ℕ

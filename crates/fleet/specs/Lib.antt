@@ -4,6 +4,12 @@ pub mod Units
 pub mod LookUp
 pub mod Ledger
 pub mod Entries
+pub mod Limits
 pub mod Adding
+pub mod Standing
+pub mod Withdrawing
+pub mod Returning
+pub mod Retiring
+pub mod Rebuilding
 pub mod Registers
 pub mod Fleets

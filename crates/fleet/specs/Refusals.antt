@@ -7,7 +7,7 @@ use Rattle.std.specs.declared.option.Option.the-variants.{Some, None}
 use Rattle.std.specs.declared.result.Result.{Result}
 use Rattle.std.specs.declared.result.Result.the-variants.{Ok, Err}
 use Rattle.fleet.specs.declared.refusal.Refusal.{Refusal}
-use Rattle.fleet.specs.declared.refusal.Refusal.the-variants.{Identity, Capacity, States, Registered, Full, TotalCapacity, Tolerance, Place}
+use Rattle.fleet.specs.declared.refusal.Refusal.the-variants.{Identity, Capacity, States, Registered, Full, TotalCapacity, NotRegistered, Standing, FirstWeight, Tolerance, Place}
 
 abbrev pub number : Refusal → ℕ
 number Identity = 1
@@ -16,6 +16,9 @@ number States = 3
 number Registered = 4
 number Full = 5
 number TotalCapacity = 6
+number NotRegistered = 7
+number Standing = 8
+number FirstWeight = 9
 number Tolerance = 10
 number Place = 11
 

@@ -1,9 +1,9 @@
 -- Generating units as a reader of the register has them. Assumes nothing.
-use mathlib.Core.Bool.{Bool, true, cond, _&&_}
+use mathlib.Core.Bool.{Bool, true, false, cond, _&&_}
 use mathlib.Core.List.{List, [], _∷_, map}
 use Prim.Native.Nat.{ℕ}
 use lib.ListN.{take}
-use Rattle.std.specs.shelf.Lists.{sumBy}
+use Rattle.std.specs.shelf.Lists.{sumBy, kept-by}
 use Rattle.rounding.specs.declared.state.State.{State}
 use Rattle.fleet.specs.States.{lawful, last-outage}
 use Rattle.fleet.specs.declared.record.Share.{Share}
@@ -17,6 +17,10 @@ pub record GeneratingUnit : Type 0 where
   pub states : List State
   pub serving : Bool
 
+-- what a place without a unit reads as
+abbrev pub blank : GeneratingUnit
+blank = record { identity = 0; capacity = 0; states = []; serving = false }
+
 -- the unit that a record of the register holds
 abbrev pub unit-of : UnitRecord → GeneratingUnit
 unit-of r = record { identity = r .identity; capacity = r .capacity; states = take (r .count) (r .states); serving = r .serving }
@@ -28,6 +32,10 @@ listed len records = map unit-of (take len records)
 -- a unit that is added is in service
 abbrev pub new-unit : ℕ → ℕ → List State → GeneratingUnit
 new-unit identity capacity states = record { identity = identity; capacity = capacity; states = states; serving = true }
+
+-- the units in service, in their order
+abbrev pub in-service : List GeneratingUnit → List GeneratingUnit
+in-service units = kept-by (λ u. u .serving) units
 
 -- what a unit counts for: its capacity, its capacity while in service, its greatest outage while in service
 abbrev pub share : Share → GeneratingUnit → ℕ

@@ -16,6 +16,12 @@ pub enum Refusal {
     Full,
     // all registered units, in service or out, would come to more than 1,000 steps
     TotalCapacity,
+    // the identity is not registered
+    NotRegistered,
+    // the unit is out already, or in service where it must be out
+    Standing,
+    // the weight of the unit's first state is at most 500,000
+    FirstWeight,
     // the new tolerance would pass 1,000,000
     Tolerance,
     // a place above 1,000
@@ -33,6 +39,9 @@ impl Refusal {
             Refusal::Registered => 4,
             Refusal::Full => 5,
             Refusal::TotalCapacity => 6,
+            Refusal::NotRegistered => 7,
+            Refusal::Standing => 8,
+            Refusal::FirstWeight => 9,
             Refusal::Tolerance => 10,
             Refusal::Place => 11,
         }

@@ -8,8 +8,8 @@ use Rattle.std.specs.Options.{mapped}
 use Rattle.std.specs.declared.option.Option.{Option}
 use Rattle.std.specs.declared.option.Option.the-variants.{Some, None}
 use Rattle.std.proofs.shelf.Lists.{length-push}
+use Rattle.rounding.specs.Tolerance.{raised}
 use Rattle.rounding.specs.Adding.{added}
-use Rattle.fleet.specs.Adding.{raised}
 use Rattle.fleet.specs.Ledger.{Ledger}
 use Rattle.fleet.specs.Refusals.{unless}
 use Rattle.fleet.specs.Units.{new-unit}

@@ -1,4 +1,6 @@
 pub mod Rule
 pub mod Table
 pub mod Mixture
+pub mod Tolerance
 pub mod Adding
+pub mod Removing

@@ -4,6 +4,7 @@ ghost use Prim.Native.Nat.{ℕ, _+_, _*_, _<_, _≤_};
 ghost use lib.ListN.{length, getD};
 ghost use Rattle.rounding.specs.Table.{full, entry-before, Falling, Zeros, Within};
 ghost use Rattle.rounding.specs.Mixture.{million, weights, Outages, amount as amount-of, mixture};
+ghost use Rattle.rounding.specs.Tolerance.{raised};
 ghost use Rattle.rounding.specs.Adding.{added};
 use crate::rule::Rounding;
 use crate::state::State;
@@ -52,7 +53,7 @@ pub fn add<R: Rounding>(rule: &R, states: &[State], entries: &mut [u64])
     ensures certain { λ _. ⌜ getD (now (entries .exit)) 0 0 ≡ full ⌝ }
     ensures falling { λ _. ⌜ Falling (now (entries .exit)) ⌝ }
     ensures zeros { λ _. ⌜ ((m most : ℕ) → Outages most (now (states .entry)) → Zeros m (now (entries .entry)) → Zeros (m + most) (now (entries .exit))) ⌝ }
-    ensures error { λ _. ⌜ ((t scale : ℕ) (x : ℕ → ℕ) → Within t scale x (now (entries .entry)) → Within (t + 1) (scale * million) (mixture (now (states .entry)) x) (now (entries .exit))) ⌝ }
+    ensures error { λ _. ⌜ ((t scale : ℕ) (x : ℕ → ℕ) → Within t scale x (now (entries .entry)) → Within (raised t) (scale * million) (mixture (now (states .entry)) x) (now (entries .exit))) ⌝ }
 {
     for k in (0..entries.len()).rev() {
         entries[k] = rule.round(amount(states, entries, k), MILLION);
