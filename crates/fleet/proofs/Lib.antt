@@ -2,5 +2,8 @@ pub mod Parts
 pub mod Lawful
 pub mod Refusing
 pub mod Listing
+pub mod Standings
+pub mod Registered
+pub mod Identities
 pub mod Adding
 pub mod Opening

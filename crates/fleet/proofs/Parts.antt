@@ -1,8 +1,8 @@
 -- Parts of lists from the start. Assumes nothing.
-use mathlib.Core.Path.{_≡_, sym, ap, _∙_}
+use mathlib.Core.Path.{_≡_, refl, sym, ap, _∙_}
 use mathlib.Core.List.{List, [], _∷_, _++_}
 use mathlib.Core.Logic.{⊎-elim}
-use Prim.Native.Nat.{ℕ, _+_, _<_, min}
+use Prim.Native.Nat.{ℕ, zero, suc, _+_, _<_, min}
 use native.Mathlib.Omega.{arith}
 use lib.ListN.{length, getD, set, take}
 use Rattle.std.proofs.shelf.Lists.{take-more, take-more-set, take-all}
@@ -24,3 +24,10 @@ copy-more xs ys i d room there same =
 -- the whole of a copy
 pub copy-all : {X : Type 0} (xs ys : List X) (i : ℕ) → i ≡ length ys → take i xs ≡ take i ys → take (length ys) xs ≡ ys
 copy-all xs ys i end same = ap (λ n. take n xs) (sym end) ∙ same ∙ take-all i ys (omega arith)
+
+-- one element of a part from the start
+pub take-set-within : {X : Type 0} (n : ℕ) (xs : List X) (i : ℕ) (y : X) → take n (set xs i y) ≡ set (take n xs) i y
+take-set-within zero xs i y = refl
+take-set-within (suc n) [] i y = refl
+take-set-within (suc n) (x ∷ xs) zero y = refl
+take-set-within (suc n) (x ∷ xs) (suc i) y = ap (λ rest. x ∷ rest) (take-set-within n xs i y)

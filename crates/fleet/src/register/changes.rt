@@ -6,6 +6,7 @@ ghost use Prim.Native.Nat.{_+_, _≤_, _<_};
 ghost use lib.ListN.{length};
 ghost use Rattle.fleet.specs.States.{lawful};
 ghost use Rattle.fleet.specs.Units.{unit-of, registered-capacity};
+ghost use Rattle.fleet.specs.Standing.{with-standing};
 ghost use Rattle.fleet.specs.Registers.{units-of};
 use super::Register;
 use super::UNITS;
@@ -31,5 +32,12 @@ impl Register {
         let at = self.len;
         self.units[at] = unit;
         self.len = at + 1;
+    }
+    // Changes the standing of the unit at a place, and of no other.
+    pub(crate) fn set_serving(&mut self, place: usize, serving: bool)
+        requires { ⌜ place < length (units-of (now self)) ⌝ }
+        ensures { λ _. ⌜ units-of (now (self .exit)) ≡ with-standing serving place (units-of (now (self .entry))) ⌝ }
+    {
+        self.units[place].serving = serving;
     }
 }

@@ -7,6 +7,7 @@ ghost use Rattle.fleet.specs.Refusals.{Outcome};
 ghost use Rattle.fleet.specs.Units.{GeneratingUnit, unit-of, total as total-of};
 ghost use Rattle.fleet.specs.LookUp.{place as place-of, plain};
 ghost use Rattle.fleet.specs.Adding.{room-refusal};
+ghost use Rattle.fleet.specs.Standing.{unit-at, standing-refusal};
 ghost use Rattle.fleet.specs.Registers.{units-of};
 use super::Register;
 use super::UNITS;
@@ -72,6 +73,18 @@ impl Register {
         ensures bound { λ r. ⌜ r ≤ 1000 ⌝ }
     {
         total(self.registered(), which)
+    }
+
+    // The record of the unit at a place, if it stands as a call needs it.
+    pub(crate) fn standing(&self, place: usize, serving: bool) -> Result<UnitRecord, Refusal>
+        requires { ⌜ place < length (units-of (now self)) ⌝ }
+        ensures { λ r. ⌜ Outcome (standing-refusal serving (unit-at place (units-of (now (self .entry))))) r (λ u. unit-of u ≡ unit-at place (units-of (now (self .entry)))) ⌝ }
+    {
+        let unit = self.units[place];
+        if unit.serving != serving {
+            return Err(Refusal::Standing);
+        }
+        Ok(unit)
     }
 
     // Whether one unit more finds room.

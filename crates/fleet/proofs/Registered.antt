@@ -1,0 +1,10 @@
+-- The places of a register. Assumes nothing.
+use Prim.Native.Nat.{ℕ, _<_}
+use native.Mathlib.Omega.{arith}
+use lib.ListN.{length}
+use Rattle.fleet.specs.Registers.{units-of}
+use Rattle.fleet.specs.declared.register.Register.{Register}
+use Rattle.fleet.proofs.Listing.{length-listed}
+
+pub inside : (self : Register) (place : ℕ) → place < length (units-of self) → place < 64
+inside self place h = omega (arith, length-listed (self .units) (self .len) (omega (arith, self .places, self .few)), self .few)
