@@ -3,6 +3,7 @@ pub mod Lawful
 pub mod Refusing
 pub mod Listing
 pub mod Standings
+pub mod Striking
 pub mod Registered
 pub mod Identities
 pub mod Adding

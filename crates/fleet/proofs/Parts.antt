@@ -1,11 +1,13 @@
 -- Parts of lists from the start. Assumes nothing.
 use mathlib.Core.Path.{_≡_, refl, sym, ap, _∙_}
-use mathlib.Core.List.{List, [], _∷_, _++_}
+use mathlib.Core.List.{List, [], _∷_, _++_, map}
 use mathlib.Core.Logic.{⊎-elim}
-use Prim.Native.Nat.{ℕ, zero, suc, _+_, _<_, min}
+use Prim.Native.Nat.{ℕ, zero, suc, _+_, _-_, _<_, _≤_, min}
 use native.Mathlib.Omega.{arith}
-use lib.ListN.{length, getD, set, take}
-use Rattle.std.proofs.shelf.Lists.{take-more, take-more-set, take-all}
+use lib.ListN.{length, getD, set, take, drop}
+use Rattle.std.specs.shelf.Lists.{removed, paste}
+use Rattle.std.proofs.shelf.Lists.{take-more, take-more-set, take-all, take-take, take-map, drop-take, drop-map, map-append, length-drop}
+use Rattle.std.proofs.shelf.Edits.{take-paste}
 use Rattle.std.proofs.shelf.Tests.{cases-lt}
 
 -- a part from the start, cut at the length
@@ -31,3 +33,23 @@ take-set-within zero xs i y = refl
 take-set-within (suc n) [] i y = refl
 take-set-within (suc n) (x ∷ xs) zero y = refl
 take-set-within (suc n) (x ∷ xs) (suc i) y = ap (λ rest. x ∷ rest) (take-set-within n xs i y)
+
+-- one element taken out of a part from the start, by moving up those after it
+pub take-struck : {X : Type 0} (xs : List X) (n i : ℕ) → i < n → n ≤ length xs → take (n - 1) (paste xs i (drop (i + 1) xs) (n - (i + 1))) ≡ removed (take n xs) i
+take-struck xs n i inside room =
+    let left = n - (i + 1) in
+    let less : n - 1 ≡ i + left = omega arith in
+    let whole : suc i + left ≡ n = omega arith in
+    let next : i + 1 ≡ suc i = omega arith in
+    let after = length-drop (i + 1) xs in
+    ap (λ m. take m (paste xs i (drop (i + 1) xs) left)) less
+    ∙ take-paste xs i (drop (i + 1) xs) left (omega arith) (omega arith)
+    ∙ ap (λ m. take i xs ++ take left (drop m xs)) next
+    ∙ ap (λ rest. take i xs ++ rest) (sym (drop-take (suc i) left xs) ∙ ap (λ m. drop (suc i) (take m xs)) whole)
+    ∙ ap (λ front. front ++ drop (suc i) (take n xs)) (sym (take-take i n xs (omega arith)))
+
+pub map-removed : {X Y : Type 0} (f : X → Y) (xs : List X) (i : ℕ) → map f (removed xs i) ≡ removed (map f xs) i
+map-removed f xs i =
+    map-append f (take i xs) (drop (suc i) xs)
+    ∙ ap (λ front. front ++ map f (drop (suc i) xs)) (sym (take-map f i xs))
+    ∙ ap (λ rest. take i (map f xs) ++ rest) (sym (drop-map f (suc i) xs))

@@ -4,6 +4,7 @@ ghost use mathlib.Core.Bool.{true};
 ghost use mathlib.Core.List.{[], _∷_, _++_};
 ghost use Prim.Native.Nat.{_+_, _≤_, _<_};
 ghost use lib.ListN.{length};
+ghost use Rattle.std.specs.shelf.Lists.{removed};
 ghost use Rattle.fleet.specs.States.{lawful};
 ghost use Rattle.fleet.specs.Units.{unit-of, registered-capacity};
 ghost use Rattle.fleet.specs.Standing.{with-standing};
@@ -39,5 +40,13 @@ impl Register {
         ensures { λ _. ⌜ units-of (now (self .exit)) ≡ with-standing serving place (units-of (now (self .entry))) ⌝ }
     {
         self.units[place].serving = serving;
+    }
+    // Takes out the unit at a place; each later one moves up a place.
+    pub(crate) fn strike(&mut self, place: usize)
+        requires { ⌜ place < length (units-of (now self)) ⌝ }
+        ensures { λ _. ⌜ units-of (now (self .exit)) ≡ removed (units-of (now (self .entry))) place ⌝ }
+    {
+        self.units.copy_within(place + 1..self.len, place);
+        self.len -= 1;
     }
 }
