@@ -26,9 +26,6 @@ present identity units i h = record {
   accepted = ap (λ o. refused-if (not (isSome o)) NotRegistered) h;
 }
 
-pub absent : (identity : ℕ) (units : List GeneratingUnit) → place identity units ≡ None → absent-refusal units identity ≡ Some 7
-absent identity units h = ap (λ o. refused-if (not (isSome o)) NotRegistered) h
-
 -- a unit that does not stand as the call needs it, and one that does
 pub stands-otherwise : (is serving : Bool) → not (Bool·beq is serving) ≡ true → refused-if (cond serving (not is) is) Standing ≡ Some 8
 stands-otherwise true true h = absurd (false≢true h)

@@ -8,6 +8,7 @@ use crate::register::Register;
 
 mod changes;
 mod questions;
+mod service;
 
 // A table has the places 0 to 1,000.
 const PLACES: usize = 1001;

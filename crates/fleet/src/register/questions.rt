@@ -47,7 +47,7 @@ impl Register {
         &self.units[0..self.len]
     }
 
-    fn len(&self) -> usize
+    pub(crate) fn len(&self) -> usize
         ensures { λ r. ⌜ r ≡ length (units-of (now (self .entry))) ⌝ }
     {
         self.len
