@@ -18,7 +18,7 @@ use rounding::Rounding;
 use rounding::State;
 
 // The tolerance after one more rounding of the whole table.
-fn raised(tolerance: u32) -> Result<u32, Refusal>
+pub(super) fn raised(tolerance: u32) -> Result<u32, Refusal>
     requires { ⌜ tolerance ≤ 1000000 ⌝ }
     ensures { λ r. ⌜ Outcome (tolerance-refusal (raised-by-one tolerance)) r (λ t. t ≡ raised-by-one tolerance) ⌝ }
 {
