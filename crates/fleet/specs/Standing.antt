@@ -5,7 +5,6 @@ use Prim.Native.Nat.{ℕ}
 use lib.ListN.{getD, set}
 use Rattle.std.specs.Options.{valueOr}
 use Rattle.std.specs.declared.option.Option.{Option}
-use Rattle.rounding.specs.declared.state.State.{State}
 use Rattle.fleet.specs.Refusals.{refused-if}
 use Rattle.fleet.specs.Units.{GeneratingUnit, blank}
 use Rattle.fleet.specs.LookUp.{place, registered}

@@ -5,8 +5,8 @@ use mathlib.Core.Logic.{⊎-elim}
 use Prim.Native.Nat.{ℕ, _+_, _*_, _/_, _%_, _≤_, _<_}
 use native.Mathlib.Nat.{div-add-mod', mod-lt, add-mul, mul-le-mul-right}
 use native.Mathlib.Omega.{arith}
-use lib.Dec.{eqb}
-use Rattle.std.proofs.shelf.Tests.{cond-false, ne-eqb, cases-lt, false≢true, ltb-true, lt-ltb, leb-true, le-leb}
+use lib.Dec.{eqb, ltb}
+use Rattle.std.proofs.shelf.Tests.{cond-false, ne-eqb, cases-lt, false≢true, ltb-true, ltb-false, lt-ltb, leb-true, le-leb}
 use Rattle.rounding.specs.Rule.{Near, Close, Rising, divided, down, up, nearest}
 
 -- the quotient with or without one more
@@ -62,11 +62,23 @@ down-close = divided-close _ (λ r d h e. absurd (false≢true e))
 pub down-rising : Rising down
 down-rising = divided-rising (λ remainder divisor. false) (λ r s d h e. e)
 
+reaches : (b : Bool) (a d q r : ℕ) → q * d + r ≡ a → r < d → (b ≡ false → r ≤ 0) → a ≤ bumped b q * d
+unfolding bumped
+reaches true a d q r whole small none = omega (arith, add-mul q 1 d)
+reaches false a d q r whole small none = let no-rest = none refl in omega (arith, add-mul q 0 d)
+
 pub up-close : Close up
 up-close = divided-close _ (λ r d h e. ltb-true 0 r e)
 
 pub up-rising : Rising up
 up-rising = divided-rising _ (λ r s d h e. let some = ltb-true 0 r e in lt-ltb 0 s (omega arith))
+
+-- a quotient that is rounded up reaches the amount
+pub up-reaches : (amount divisor : ℕ) → 0 < divisor → amount ≤ up amount divisor * divisor
+up-reaches a d h =
+    let whole = div-add-mod' a d in
+    let small = mod-lt a h in
+    rw (some-divisor (λ remainder divisor. ltb 0 remainder) a d h) (reaches (ltb 0 (a % d)) a d (a / d) (a % d) whole small (ltb-false 0 (a % d)))
 
 pub nearest-close : Close nearest
 nearest-close = divided-close _ (λ r d h e. let half = leb-true d (2 * r) e in omega arith)

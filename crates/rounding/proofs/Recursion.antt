@@ -9,6 +9,7 @@ use native.Mathlib.Omega.{arith}
 use lib.Dec.{ltb}
 use lib.ListN.{length, getD, set, length-set}
 use lib.Seq.{getD-set-same, getD-set-other}
+use Rattle.std.specs.shelf.Lists.{All}
 use Rattle.std.proofs.shelf.Counted.{fill-by-all}
 use Rattle.std.proofs.shelf.Lists.{getD-past}
 use Rattle.std.proofs.shelf.Tests.{cases-lt, cases-eq, cond-true, cond-false, lt-ltb, le-ltb}
@@ -20,26 +21,49 @@ use Rattle.rounding.specs.declared.state.State.{State}
 use Rattle.rounding.proofs.Amounts.{amount-cons, amount-none, amount-le, mixture-cons, mixture-none, weights-cons, weights-none}
 
 -- a place at or above 0, and one below
-before-at : (entries : List ℕ) (k outage : ℕ) → outage ≤ k → entry-before entries k outage ≡ getD entries (k - outage) 0
+pub before-at : (entries : List ℕ) (k outage : ℕ) → outage ≤ k → entry-before entries k outage ≡ getD entries (k - outage) 0
 before-at entries k outage h = cond-false (ltb k outage) full _ (le-ltb k outage h)
 
-before-below : (entries : List ℕ) (k outage : ℕ) → k < outage → entry-before entries k outage ≡ full
+pub before-below : (entries : List ℕ) (k outage : ℕ) → k < outage → entry-before entries k outage ≡ full
 before-below entries k outage h = cond-true (ltb k outage) full _ (lt-ltb k outage h)
 
--- the amount at k needs no entry above k
-before-agrees : (a b : List ℕ) (k outage : ℕ) → ((j : ℕ) → j ≤ k → getD a j 0 ≡ getD b j 0) → entry-before a k outage ≡ entry-before b k outage
+-- an entry before k agrees where the place it reads does
+pub before-agrees : (a b : List ℕ) (k outage : ℕ) → (outage ≤ k → getD a (k - outage) 0 ≡ getD b (k - outage) 0) → entry-before a k outage ≡ entry-before b k outage
 before-agrees a b k outage same =
     ⊎-elim
     (λ h. before-below a k outage h ∙ sym (before-below b k outage h))
-    (λ h. before-at a k outage h ∙ same (k - outage) (omega arith) ∙ sym (before-at b k outage h))
+    (λ h. before-at a k outage h ∙ same h ∙ sym (before-at b k outage h))
     (cases-lt k outage)
 
-pub amount-agrees : (states : List State) (a b : List ℕ) (k : ℕ) → ((j : ℕ) → j ≤ k → getD a j 0 ≡ getD b j 0) → amount states a k ≡ amount states b k
-amount-agrees [] a b k same = amount-none a k ∙ sym (amount-none b k)
-amount-agrees (s ∷ states) a b k same =
-    let here = before-agrees a b k (s .outage) same in
-    let rest = amount-agrees states a b k same in
+-- the amount at k needs only entries that lie at least the least outage before k
+pub amount-agrees : (least : ℕ) (states : List State) → All (λ s. least ≤ s .outage) states → (a b : List ℕ) (k : ℕ) → ((j : ℕ) → j + least ≤ k → getD a j 0 ≡ getD b j 0) → amount states a k ≡ amount states b k
+amount-agrees least [] low a b k same = amount-none a k ∙ sym (amount-none b k)
+amount-agrees least (s ∷ states) low a b k same =
+    let far = low .0 in
+    let here = before-agrees a b k (s .outage) (λ h. same (k - s .outage) (omega arith)) in
+    let rest = amount-agrees least states (low .1) a b k same in
     rw (amount-cons s states a k, amount-cons s states b k, here, rest)
+
+-- what holds of every state holds of all in a list
+pub all-of : {P : State → Type 0} → ((s : State) → P s) → (states : List State) → All P states
+all-of h [] = tt
+all-of h (s ∷ states) = (h s, all-of h states)
+
+-- a mixture of entries is as near to the mixture of a sequence as each entry is to its term
+module _ (entries : List ℕ) (t scale : ℕ) (x : ℕ → ℕ) (k : ℕ) where
+  pub amount-over : (states : List State) → All (λ s. entry-before entries k (s .outage) * scale ≤ x (k - s .outage) + t * scale) states → amount states entries k * scale ≤ mixture states x k + weights states * (t * scale)
+  amount-over [] near = rw (amount-none, mixture-none, weights-none) (omega arith)
+  amount-over (s ∷ states) near =
+      let rest = amount-over states (near .1) in
+      let here = mul-le-mul-left (s .weight) (near .0) in
+      rw (amount-cons, mixture-cons, weights-cons) (omega arith)
+
+  pub amount-under : (states : List State) → All (λ s. x (k - s .outage) ≤ entry-before entries k (s .outage) * scale + t * scale) states → mixture states x k ≤ amount states entries k * scale + weights states * (t * scale)
+  amount-under [] near = rw (amount-none, mixture-none, weights-none) (omega arith)
+  amount-under (s ∷ states) near =
+      let rest = amount-under states (near .1) in
+      let here = mul-le-mul-left (s .weight) (near .0) in
+      rw (amount-cons, mixture-cons, weights-cons) (omega arith)
 
 -- a falling table that begins with certainty
 module _ (old : List ℕ) (certain : getD old 0 0 ≡ full) (falling : Falling old) where
@@ -48,7 +72,7 @@ module _ (old : List ℕ) (certain : getD old 0 0 ≡ full) (falling : Falling o
   entry-le (suc k) = let less = rw add-one at (falling k) in let rest = entry-le k in omega arith
 
   -- a place below 0 reads as place 0 does
-  before-is : (k outage : ℕ) → entry-before old k outage ≡ getD old (k - outage) 0
+  pub before-is : (k outage : ℕ) → entry-before old k outage ≡ getD old (k - outage) 0
   before-is k outage =
       ⊎-elim
       (λ h. let none : 0 ≡ k - outage = omega arith in before-below old k outage h ∙ sym certain ∙ ap (λ j. getD old j 0) none)
@@ -85,21 +109,13 @@ module _ (old : List ℕ) (certain : getD old 0 0 ≡ full) (falling : Falling o
       let here : entry-before old k (s .outage) ≡ 0 = before-is k (s .outage) ∙ zeros (k - s .outage) (omega arith) in
       rw (amount-cons s states old k, here, rest) (omega arith)
 
-  -- a mixture of entries is as near to the mixture of a sequence as each entry is to its term
+  -- each place that the amount reads is within the tolerance
   module _ (t scale : ℕ) (x : ℕ → ℕ) (within : Within t scale x old) (k : ℕ) (inside : k < length old) where
-    amount-over : (states : List State) → amount states old k * scale ≤ mixture states x k + weights states * (t * scale)
-    amount-over [] = rw (amount-none, mixture-none, weights-none) (omega arith)
-    amount-over (s ∷ states) =
-        let rest = amount-over states in
-        let here = mul-le-mul-left (s .weight) (within .over (k - s .outage) (omega arith)) in
-        rw (amount-cons, mixture-cons, weights-cons, before-is k (s .outage)) (omega arith)
+    before-over : (s : State) → entry-before old k (s .outage) * scale ≤ x (k - s .outage) + t * scale
+    before-over s = rw (before-is k (s .outage)) (within .over (k - s .outage) (omega arith))
 
-    amount-under : (states : List State) → mixture states x k ≤ amount states old k * scale + weights states * (t * scale)
-    amount-under [] = rw (amount-none, mixture-none, weights-none) (omega arith)
-    amount-under (s ∷ states) =
-        let rest = amount-under states in
-        let here = mul-le-mul-left (s .weight) (within .under (k - s .outage) (omega arith)) in
-        rw (amount-cons, mixture-cons, weights-cons, before-is k (s .outage)) (omega arith)
+    before-under : (s : State) → x (k - s .outage) ≤ entry-before old k (s .outage) * scale + t * scale
+    before-under s = rw (before-is k (s .outage)) (within .under (k - s .outage) (omega arith))
 
 -- the table once the places from k on are written
 pub record Partly (answer : ℕ → ℕ → ℕ) (states : List State) (old new : List ℕ) (k : ℕ) : Type 0 where
@@ -146,7 +162,7 @@ module _ (answer : ℕ → ℕ → ℕ) (close : Close answer) (rising : Rising 
     pub partly-more : (new : List ℕ) (k entry : ℕ) → k < length old → Partly answer states old new (k + 1) → entry ≡ answer (amount states new k) million → Partly answer states old (set new k entry) k
     partly-more new k entry inside h is =
         let within : k < length new = omega (arith, h .places) in
-        let same = amount-agrees states new old k (λ j le. h .kept j (omega arith)) in
+        let same = amount-agrees 0 states (all-of (λ s. omega arith) states) new old k (λ j le. h .kept j (omega arith)) in
         record {
           places = length-set new k entry ∙ h .places;
           kept = λ j below. let other : j ≢ k = omega arith in getD-set-other new k j entry 0 other ∙ h .kept j (omega arith);
@@ -190,11 +206,11 @@ module _ (answer : ℕ → ℕ → ℕ) (close : Close answer) (rising : Rising 
         over = λ k h.
             let inside : k < length old = omega (arith, made .places) in
             let near = mul-le-mul-right scale (le-of-lt (close (amount states old k) million (asked _ (old-le k)) .above)) in
-            let mixed = rw shares at (amount-over old certain falling t scale x within k inside states) in
+            let mixed = rw shares at (amount-over old t scale x k states (all-of (before-over old certain falling t scale x within k inside) states)) in
             rw (made .entries k inside) (omega arith);
         under = λ k h.
             let inside : k < length old = omega (arith, made .places) in
             let near = mul-le-mul-right scale (le-of-lt (close (amount states old k) million (asked _ (old-le k)) .below)) in
-            let mixed = rw shares at (amount-under old certain falling t scale x within k inside states) in
+            let mixed = rw shares at (amount-under old t scale x k states (all-of (before-under old certain falling t scale x within k inside) states)) in
             rw (made .entries k inside) (omega arith);
       }

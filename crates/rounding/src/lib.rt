@@ -1,9 +1,11 @@
-// Rounding rules, and the recursion that adds a unit to a capacity outage table.
+// Rounding rules, and the recursion that adds a unit to a capacity outage table, with its reverse.
+mod removal;
 mod rule;
 mod rules;
 mod state;
 mod table;
 
+pub use removal::remove;
 pub use rule::Rounding;
 pub use rules::Down;
 pub use rules::DownRounding;

@@ -16,7 +16,7 @@ pub const FULL: u64 = 1_000_000_000_000;
 pub const MILLION: u32 = 1_000_000;
 
 // The entry at place k − outage; a place below 0 counts as certain.
-fn entry_before(entries: &[u64], k: usize, outage: u32) -> u64
+pub(crate) fn entry_before(entries: &[u64], k: usize, outage: u32) -> u64
     requires { ⌜ k < length (now entries) ⌝ }
     ensures { λ r. ⌜ r ≡ entry-before (now (entries .entry)) k outage ⌝ }
 {
@@ -30,7 +30,7 @@ fn entry_before(entries: &[u64], k: usize, outage: u32) -> u64
 
 // The sum of weight × entry at k − outage over the states. It fits, since entries are at most
 // FULL and weights total a million.
-fn amount(states: &[State], entries: &[u64], k: usize) -> u64
+pub(crate) fn amount(states: &[State], entries: &[u64], k: usize) -> u64
     requires within { ⌜ k < length (now entries) ⌝ }
     requires shares { ⌜ weights (now states) ≤ million ⌝ }
     requires entries_fit { ⌜ ((i : ℕ) → getD (now entries) i 0 ≤ full) ⌝ }
