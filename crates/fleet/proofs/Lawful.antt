@@ -7,9 +7,13 @@ use native.Mathlib.Nat.{le-refl}
 use native.Mathlib.Omega.{arith}
 use lib.Dec.{eqb, leb, ltb}
 use lib.ListN.{length, getD, take, drop}
+use Rattle.std.specs.shelf.Lists.{All}
+use Rattle.std.proofs.shelf.Elements.{all-weaker}
 use Rattle.std.proofs.shelf.Lists.{at-drop-more, at-drop-all, take-rest}
+use Rattle.std.proofs.shelf.Sums.{sumBy-cons}
 use Rattle.std.proofs.shelf.Tests.{and-parts, ltb-true, leb-true, eqb-true, false≢true}
 use Rattle.rounding.specs.Mixture.{million, weights, Outages}
+use Rattle.rounding.specs.Removing.{Starting, first-weight}
 use Rattle.rounding.specs.declared.state.State.{State}
 use Rattle.fleet.specs.States.{starts, follows, later, lawful, last-outage}
 
@@ -28,6 +32,10 @@ pub lawful-none : (capacity : ℕ) (states : List State) → length states < 1 �
 unfolding lawful
 lawful-none capacity [] h = refl
 lawful-none capacity (s ∷ states) h = absurd (omega arith)
+
+weights-cons : (s : State) (states : List State) → weights (s ∷ states) ≡ s .weight + weights states
+unfolding weights
+weights-cons s states = sumBy-cons (λ (t : State). t .weight) s states
 
 -- as `[first, rest @ ..]` takes the list apart
 pub lawful-apart : (capacity : ℕ) (states : List State) (d : State) → 1 ≤ length states → lawful capacity states ≡ leb (length states) 8 && (starts (getD states 0 d) && (later capacity (getD states 0 d .outage) (take (length states - 1) (drop 1 states)) && eqb (weights states) million))
@@ -64,11 +72,22 @@ later-last capacity s (t ∷ states) h low =
     let most = rest .0 .0 in
     ((omega arith, rest .0), rest .1)
 
+-- each later state has more out than the one before the first of them
+later-above : (capacity before : ℕ) (states : List State) → later capacity before states ≡ true → All (λ s. before < s .outage) states
+unfolding later
+later-above capacity before [] h = tt
+later-above capacity before (s ∷ states) h =
+    let parts = and-parts (follows capacity before s) (later capacity (s .outage) states) h in
+    let up = ltb-true before (s .outage) (and-parts (ltb before (s .outage)) _ (parts .0) .0) in
+    (up, all-weaker (λ t. s .outage < t .outage) (λ t. before < t .outage) (λ t more. omega arith) states (later-above capacity (s .outage) states (parts .1)))
+
 -- what the rules on states give
 pub record Ruled (capacity : ℕ) (states : List State) : Type 0 where
   pub some : 0 < length states
   pub few : length states ≤ 8
   pub shares : weights states ≡ million
+  pub starting : Starting states
+  pub weight-held : first-weight states ≤ million
   pub outages : Outages (last-outage states) states
   pub held : last-outage states ≤ capacity
 
@@ -85,6 +104,8 @@ ruled capacity (s ∷ states) h =
       some = omega arith;
       few = leb-true _ 8 (parts .0);
       shares = eqb-true _ _ (ending .1);
+      starting = (none, all-weaker (λ t. s .outage < t .outage) (λ t. 1 ≤ t .outage) (λ t more. omega arith) states (later-above capacity (s .outage) states (ending .0)));
+      weight-held = let all = weights-cons s states in omega (arith, eqb-true _ _ (ending .1));
       outages = last .0;
       held = last .1;
     }

@@ -7,4 +7,5 @@ pub mod Striking
 pub mod Registered
 pub mod Identities
 pub mod Adding
+pub mod Removals
 pub mod Opening

@@ -3,6 +3,7 @@ ghost use mathlib.Core.Path.{_≡_};
 ghost use mathlib.Core.Bool.{cond};
 ghost use Prim.Native.Nat.{_≤_};
 ghost use lib.ListN.{length, take};
+ghost use Rattle.rounding.specs.Removing.{first-weight};
 ghost use Rattle.fleet.specs.States.{last-outage};
 ghost use Rattle.fleet.specs.Units.{unit-of, new-unit, share};
 ghost use Rattle.fleet.specs.LookUp.{plain as plain-of};
@@ -102,6 +103,16 @@ impl UnitRecord {
         match self.states().last() {
             Some(state) => state.outage,
             None => 0,
+        }
+    }
+
+    // The weight of the first state, in which nothing is out.
+    pub(crate) fn first_weight(&self) -> u32
+        ensures { λ r. ⌜ r ≡ first-weight (take (now (self .entry) .count) (now (self .entry) .states)) ⌝ }
+    {
+        match self.states() {
+            [first, ..] => first.weight,
+            [] => 0,
         }
     }
 
