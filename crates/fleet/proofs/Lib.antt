@@ -9,3 +9,4 @@ pub mod Identities
 pub mod Adding
 pub mod Removals
 pub mod Opening
+pub mod Building

@@ -9,12 +9,11 @@ use crate::register::Register;
 mod changes;
 mod questions;
 mod service;
+mod table;
+mod tolerance;
 
 // A table has the places 0 to 1,000.
 const PLACES: usize = 1001;
-
-// The greatest tolerance, in parts.
-const TOLERANCE: u32 = 1_000_000;
 
 #[derive(Drop)]
 pub struct Fleet {

@@ -1,45 +1,23 @@
 // Calls on a registered unit. A refused call leaves the fleet as it stood.
 ghost use mathlib.Core.Path.{_≡_};
-ghost use Prim.Native.Nat.{_≤_};
 ghost use lib.ListN.{length};
-ghost use Rattle.rounding.specs.Tolerance.{raised as raised-by-one, removal-tolerance};
-ghost use Rattle.fleet.specs.Refusals.{first, Outcome};
-ghost use Rattle.fleet.specs.Limits.{tolerance-refusal};
+ghost use Rattle.rounding.specs.Tolerance.{raised as raised-by-one};
+ghost use Rattle.fleet.specs.Refusals.{Outcome};
+ghost use Rattle.fleet.specs.Units.{in-service};
 ghost use Rattle.fleet.specs.Standing.{unit-with};
-ghost use Rattle.fleet.specs.Withdrawing.{weight-refusal, withdrawn-tolerance, withdraw-refusal, after-withdraw};
+ghost use Rattle.fleet.specs.Withdrawing.{withdrawn-tolerance, withdraw-refusal, after-withdraw};
 ghost use Rattle.fleet.specs.Returning.{return-refusal, after-return};
 ghost use Rattle.fleet.specs.Retiring.{retire-refusal, after-retire};
+ghost use Rattle.fleet.specs.Rebuilding.{after-rebuild};
 ghost use Rattle.fleet.specs.Fleets.{ledger-of};
 use super::Fleet;
-use super::TOLERANCE;
-use super::changes::raised;
+use super::table::build;
+use super::table::open_table;
+use super::tolerance::after_removal;
+use super::tolerance::raised;
 use crate::record::Share;
 use crate::refusal::Refusal;
-use rounding::MILLION;
 use rounding::Rounding;
-use rounding::Up;
-use rounding::UpRounding;
-
-// With no more than this weight in the first state the formula for the tolerance has no divisor
-// above 0: nothing would bound the error.
-const HALF: u32 = 500_000;
-
-// The tolerance after a unit is taken out of the table, by the weight of its first state.
-fn after_removal(tolerance: u32, weight: u32) -> Result<u32, Refusal>
-    requires tolerance { ⌜ tolerance ≤ 1000000 ⌝ }
-    requires weight { ⌜ weight ≤ 1000000 ⌝ }
-    ensures { λ r. ⌜ Outcome (first (weight-refusal weight) (tolerance-refusal (removal-tolerance weight tolerance))) r (λ t. t ≡ removal-tolerance weight tolerance) ⌝ }
-{
-    if weight <= HALF {
-        return Err(Refusal::FirstWeight);
-    }
-    let amount = u64::from(MILLION) * u64::from(tolerance) + u64::from(weight);
-    let raised = Up.round(amount, 2 * weight - MILLION);
-    if raised > u64::from(TOLERANCE) {
-        return Err(Refusal::Tolerance);
-    }
-    Ok(raised as u32)
-}
 
 impl Fleet {
     // Sets a unit in service out, takes it out of the table under the rule, and answers the new
@@ -88,5 +66,18 @@ impl Fleet {
         self.register.standing(place, false)?;
         self.register.strike(place);
         Ok(self.register.len() as u32)
+    }
+
+    // Builds the table anew from the units in service, in the order of the register, and answers
+    // the tolerance, which is their number.
+    pub fn rebuild<R: Rounding>(&mut self, rule: &R) -> u32
+        ensures answer { λ r. ⌜ r ≡ length (in-service (ledger-of (now (self .entry)) .units)) ⌝ }
+        ensures after { λ _. ⌜ ledger-of (now (self .exit)) ≡ after-rebuild (answer (now (rule .entry))) (ledger-of (now (self .entry))) ⌝ }
+    {
+        let mut table = open_table();
+        let count = build(rule, self.register.registered(), &mut table);
+        self.table = table;
+        self.tolerance = count;
+        count
     }
 }

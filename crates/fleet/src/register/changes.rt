@@ -34,6 +34,7 @@ impl Register {
         self.units[at] = unit;
         self.len = at + 1;
     }
+
     // Changes the standing of the unit at a place, and of no other.
     pub(crate) fn set_serving(&mut self, place: usize, serving: bool)
         requires { ⌜ place < length (units-of (now self)) ⌝ }
@@ -41,6 +42,7 @@ impl Register {
     {
         self.units[place].serving = serving;
     }
+
     // Takes out the unit at a place; each later one moves up a place.
     pub(crate) fn strike(&mut self, place: usize)
         requires { ⌜ place < length (units-of (now self)) ⌝ }

@@ -41,7 +41,7 @@ fn total(units: &[UnitRecord], which: Share) -> u32
 }
 
 impl Register {
-    fn registered(&self) -> &[UnitRecord]
+    pub(crate) fn registered(&self) -> &[UnitRecord]
         ensures { λ r. ⌜ now r ≡ take (now (self .entry) .len) (now (self .entry) .units) ⌝ }
     {
         &self.units[0..self.len]
