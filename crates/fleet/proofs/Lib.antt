@@ -5,7 +5,6 @@ pub mod Listing
 pub mod Standings
 pub mod Striking
 pub mod Registered
-pub mod Identities
 pub mod Adding
 pub mod Removals
 pub mod Opening

@@ -1,19 +1,22 @@
--- One unit of a list changed: its standing, and what the list totals then. Assumes nothing.
+-- One unit's standing: when a call is refused for it, and what a list totals with it changed. Assumes nothing.
 use mathlib.Core.Path.{_≡_, refl, sym, ap, _∙_}
-use mathlib.Core.Bool.{Bool, true, false}
+use mathlib.Core.Bool.{Bool, Bool·beq, true, false, not, cond}
 use mathlib.Core.List.{List, [], _∷_, map}
 use Prim.Native.Nat.{ℕ, zero, suc, _+_, _≤_, _<_}
 use native.Mathlib.Omega.{arith}
 use lib.ListN.{length, getD, set, take}
+use Rattle.std.specs.declared.option.Option.the-variants.{Some, None}
 use Rattle.std.proofs.shelf.Lists.{map-set}
 use Rattle.std.proofs.shelf.Sums.{sumBy-set}
-use Rattle.std.proofs.shelf.Tests.{and-parts, and-from, cond-false}
+use Rattle.std.proofs.shelf.Tests.{and-parts, and-from, cond-false, false≢true, true≢false}
+use Rattle.fleet.specs.Refusals.{number, refused-if}
 use Rattle.fleet.specs.States.{lawful, last-outage}
 use Rattle.fleet.specs.Units.{GeneratingUnit, blank, unit-of, listed, share, total, registered-capacity, greatest-outage, all-lawful}
 use Rattle.fleet.specs.Standing.{unit-at, stood, with-standing}
 use Rattle.fleet.specs.declared.record.Share.{Share}
 use Rattle.fleet.specs.declared.record.Share.the-variants.{Registered, Outage}
 use Rattle.fleet.specs.declared.record.UnitRecord.{UnitRecord}
+use Rattle.fleet.specs.declared.refusal.Refusal.the-variants.{Standing}
 use Rattle.fleet.proofs.Parts.{take-set-within}
 use Rattle.fleet.proofs.Listing.{listed-at}
 
@@ -56,3 +59,16 @@ lawful-set (v ∷ units) (suc i) u h l =
 
 pub lawful-stood : (serving : Bool) (i : ℕ) (units : List GeneratingUnit) → i < length units → all-lawful units ≡ true → all-lawful (with-standing serving i units) ≡ true
 lawful-stood serving i units h l = lawful-set units i (stood serving (unit-at i units)) l (lawful-at units i h l)
+
+-- a unit that does not stand as the call needs it, and one that does
+pub stands-otherwise : (is serving : Bool) → not (Bool·beq is serving) ≡ true → refused-if (cond serving (not is) is) Standing ≡ Some (number Standing)
+stands-otherwise true true h = absurd (false≢true h)
+stands-otherwise true false h = refl
+stands-otherwise false true h = refl
+stands-otherwise false false h = absurd (false≢true h)
+
+pub stands-so : (is serving : Bool) → not (Bool·beq is serving) ≡ false → refused-if (cond serving (not is) is) Standing ≡ None
+stands-so true true h = refl
+stands-so true false h = absurd (true≢false h)
+stands-so false true h = absurd (true≢false h)
+stands-so false false h = refl

@@ -1,4 +1,5 @@
-// Calls on a registered unit. A refused call leaves the fleet as it stood.
+// Calls on a registered unit, and a table built anew from those in service. A refused call leaves
+// the fleet as it stood.
 ghost use mathlib.Core.Path.{_≡_};
 ghost use lib.ListN.{length};
 ghost use Rattle.rounding.specs.Tolerance.{raised as raised-by-one};

@@ -48,7 +48,8 @@ impl Register {
         requires { ⌜ place < length (units-of (now self)) ⌝ }
         ensures { λ _. ⌜ units-of (now (self .exit)) ≡ removed (units-of (now (self .entry))) place ⌝ }
     {
-        self.units.copy_within(place + 1..self.len, place);
+        let next = place + 1;
+        self.units.copy_within(next..self.len, place);
         self.len -= 1;
     }
 }

@@ -1,14 +1,9 @@
 use mathlib.Core.Path.{sym, ap, _∙_}
-use mathlib.Core.Bool.{false}
-use mathlib.Core.List.{[]}
 use Rattle.std.specs.declared.option.Option.the-variants.{Some}
-use Rattle.fleet.specs.Units.{GeneratingUnit}
+use Rattle.fleet.specs.Units.{blank}
 use Rattle.fleet.specs.Registers.{units-of}
 use Rattle.fleet.proofs.Listing.{look-up-none, found}
 use Rattle.fleet.proofs.fleet.Fleet.unit.Needs as need
-
-abbrev nothing : GeneratingUnit
-nothing = record { identity = 0; capacity = 0; states = []; serving = false }
 
 pub returns-in-Break-place : need.returns-in-Break-place
 returns-in-Break-place c =
@@ -19,4 +14,4 @@ at-requires c κs = found (c .args .identity) (units-of (c .args .self .now .reg
 
 pub returns : need.returns
 returns c =
-    ap Some (c .at .ensures nothing) ∙ sym (found (c .args .identity) (units-of (c .args .self .now .register)) (c .in-Continue-place .place) (sym (c .in-Continue-place .ensures tt)) .1 nothing)
+    ap Some (c .at .ensures blank) ∙ sym (found (c .args .identity) (units-of (c .args .self .now .register)) (c .in-Continue-place .place) (sym (c .in-Continue-place .ensures tt)) .1 blank)

@@ -7,31 +7,31 @@ use Rattle.rounding.specs.Mixture.{weights}
 use Rattle.rounding.specs.Removing.{Starting, first-weight}
 use Rattle.fleet.specs.Registers.{units-of}
 use Rattle.fleet.proofs.Lawful.{ruled}
-use Rattle.fleet.proofs.Identities.{present}
+use Rattle.fleet.proofs.Listing.{found}
 use Rattle.fleet.proofs.Standings.{lawful-at}
 use Rattle.fleet.proofs.Removals.{accepted-removal, length-without}
 use Rattle.fleet.proofs.fleet.Fleet.withdraw.Needs as need
 
 pub standing-requires : need.standing-requires
-standing-requires g c κs = present (c .args .identity) (units-of (c .args .self .now .register)) (c .in-Some .place) (sym (c .in-Some .ensures tt)) .inside
+standing-requires g c κs = found (c .args .identity) (units-of (c .args .self .now .register)) (c .in-Some .place) (sym (c .in-Some .ensures tt)) .0
 
 pub after-removal-requires : need.after-removal-requires
 after-removal-requires g c κs =
     let self = c .args .self .now in
     let units = units-of (self .register) in
-    let inside = present (c .args .identity) units (c .in-Some .place) (sym (c .in-Some .ensures tt)) .inside in
+    let inside = found (c .args .identity) units (c .in-Some .place) (sym (c .in-Some .ensures tt)) .0 in
     let rules = ruled _ _ (lawful-at units (c .in-Some .place) inside (self .register .lawful)) in
     let weight = c .first-weight .ensures ∙ ap (λ u. first-weight (u .states)) (c .in-Continue-unit .ensures tt .1) in
     record { tolerance = self .held; weight = omega (arith, weight, rules .weight-held) }
 
 pub set-serving-requires : need.set-serving-requires
-set-serving-requires g c κs = present (c .args .identity) (units-of (c .args .self .now .register)) (c .in-Some .place) (sym (c .in-Some .ensures tt)) .inside
+set-serving-requires g c κs = omega (arith, found (c .args .identity) (units-of (c .args .self .now .register)) (c .in-Some .place) (sym (c .in-Some .ensures tt)) .0)
 
 pub remove-requires : need.remove-requires
 remove-requires g c κs =
     let self = c .args .self .now in
     let units = units-of (self .register) in
-    let inside = present (c .args .identity) units (c .in-Some .place) (sym (c .in-Some .ensures tt)) .inside in
+    let inside = found (c .args .identity) units (c .in-Some .place) (sym (c .in-Some .ensures tt)) .0 in
     let rules = ruled _ _ (lawful-at units (c .in-Some .place) inside (self .register .lawful)) in
     let states = c .states .ensures ∙ ap (λ u. u .states) (c .in-Continue-unit .ensures tt .1) in
     let high = accepted-removal _ _ (c .in-Continue-tolerance .ensures tt .0) .0 in

@@ -11,13 +11,13 @@ pub offset-self-place : need.offset-self-place
 offset-self-place c = omega (arith, inside (c .args .self .now) (c .args .place) (c .pre))
 
 pub index-self-place : need.index-self-place
-index-self-place c = inside (c .args .self .now) (c .args .place) (c .pre)
+index-self-place c = omega (arith, inside (c .args .self .now) (c .args .place) (c .pre))
 
 pub ghost-self : need.ghost-self
 ghost-self c =
     let self = c .args .self .now in
     let stood = listed-stood (self .units) (self .len) (c .args .place) (c .args .serving) _ (omega (arith, self .places, self .few)) (c .pre) in (
-      length-set (self .units) (c .args .place) _ ∙ self .places,
+      length-set (self .units) _ _ ∙ self .places,
       (
         self .few,
         (

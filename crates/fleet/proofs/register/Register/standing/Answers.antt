@@ -4,7 +4,7 @@ use Rattle.fleet.specs.Units.{blank}
 use Rattle.fleet.specs.Standing.{standing-refusal}
 use Rattle.fleet.proofs.Listing.{listed-at}
 use Rattle.fleet.proofs.Registered.{inside}
-use Rattle.fleet.proofs.Identities.{stands-otherwise, stands-so}
+use Rattle.fleet.proofs.Standings.{stands-otherwise, stands-so}
 use Rattle.fleet.proofs.register.Register.standing.Needs as need
 
 pub offset-self-place : need.offset-self-place

@@ -10,8 +10,8 @@ use Rattle.fleet.proofs.Striking.{listed-struck, lawful-struck, total-struck}
 use Rattle.fleet.proofs.Registered.{inside}
 use Rattle.fleet.proofs.register.Register.strike.Needs as need
 
-pub add-place : need.add-place
-add-place c = omega (arith, inside (c .args .self .now) (c .args .place) (c .pre))
+pub add-next : need.add-next
+add-next c = omega (arith, inside (c .args .self .now) (c .args .place) (c .pre))
 
 pub copy-within-requires : need.copy-within-requires
 copy-within-requires c κs =
