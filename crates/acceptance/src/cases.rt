@@ -1,5 +1,7 @@
 // Units that several examples use.
+ghost use Prim.Native.Nat.{_≤_};
 use fleet::Fleet;
+use fleet::Refusal;
 use rounding::Nearest;
 use rounding::NearestRounding;
 use rounding::State;
@@ -38,12 +40,33 @@ pub const FIVE: [State; 3] = [
     },
 ];
 
-// The number with which a fleet refuses a unit, or 0 where it takes it.
-pub(crate) fn refused(fleet: &mut Fleet, identity: u32, capacity: u32, states: &[State]) -> u8 {
-    match fleet.add(&Nearest, identity, capacity, states) {
+// In service with the weight that is left by an outage of one step.
+pub(crate) fn one_step(outage_weight: u32) -> [State; 2]
+    requires { ⌜ «outage_weight» ≤ 1000000 ⌝ }
+{
+    [
+        State {
+            outage: 0,
+            weight: 1_000_000 - outage_weight,
+        },
+        State {
+            outage: 1,
+            weight: outage_weight,
+        },
+    ]
+}
+
+// The number with which a call is refused, or 0 where it is not.
+pub(crate) fn number(answer: Result<u32, Refusal>) -> u8 {
+    match answer {
         Ok(_) => 0,
         Err(refusal) => refusal.number(),
     }
+}
+
+// The number with which a fleet refuses a unit, or 0 where it takes it.
+pub(crate) fn refused(fleet: &mut Fleet, identity: u32, capacity: u32, states: &[State]) -> u8 {
+    number(fleet.add(&Nearest, identity, capacity, states))
 }
 
 // The same of an open fleet.
