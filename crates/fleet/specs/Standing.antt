@@ -31,9 +31,9 @@ abbrev pub standing-refusal : Bool → GeneratingUnit → Option ℕ
 standing-refusal serving u = refused-if (cond serving (not (u .serving)) (u .serving)) Standing
 
 -- the same unit, in service or out
-abbrev pub stood : Bool → GeneratingUnit → GeneratingUnit
-stood serving u = record { identity = u .identity; capacity = u .capacity; states = u .states; serving = serving }
+abbrev pub standing-as : Bool → GeneratingUnit → GeneratingUnit
+standing-as serving u = record { identity = u .identity; capacity = u .capacity; states = u .states; serving = serving }
 
 -- the units with the standing of one of them changed: that of the unit at a place
 abbrev pub with-standing : Bool → ℕ → List GeneratingUnit → List GeneratingUnit
-with-standing serving i units = set units i (stood serving (unit-at i units))
+with-standing serving i units = set units i (standing-as serving (unit-at i units))

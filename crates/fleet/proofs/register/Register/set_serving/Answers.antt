@@ -4,7 +4,7 @@ use lib.ListN.{length-set}
 use Rattle.fleet.specs.Units.{all-lawful, registered-capacity}
 use Rattle.fleet.specs.Registers.{units-of}
 use Rattle.fleet.proofs.Registered.{inside}
-use Rattle.fleet.proofs.Standings.{listed-stood, capacity-stood, lawful-stood}
+use Rattle.fleet.proofs.Standings.{listed-standing, capacity-standing, lawful-standing}
 use Rattle.fleet.proofs.register.Register.set_serving.Needs as need
 
 pub offset-self-place : need.offset-self-place
@@ -16,13 +16,13 @@ index-self-place c = omega (arith, inside (c .args .self .now) (c .args .place) 
 pub ghost-self : need.ghost-self
 ghost-self c =
     let self = c .args .self .now in
-    let stood = listed-stood (self .units) (self .len) (c .args .place) (c .args .serving) _ (omega (arith, self .places, self .few)) (c .pre) in (
+    let changed = listed-standing (self .units) (self .len) (c .args .place) (c .args .serving) _ (omega (arith, self .places, self .few)) (c .pre) in (
       length-set (self .units) _ _ ∙ self .places,
       (
         self .few,
         (
-          ap all-lawful stood ∙ lawful-stood (c .args .serving) (c .args .place) (units-of self) (c .pre) (self .lawful),
-          (omega (arith, ap registered-capacity stood, capacity-stood (c .args .serving) (c .args .place) (units-of self) (c .pre), self .capacity), tt),
+          ap all-lawful changed ∙ lawful-standing (c .args .serving) (c .args .place) (units-of self) (c .pre) (self .lawful),
+          (omega (arith, ap registered-capacity changed, capacity-standing (c .args .serving) (c .args .place) (units-of self) (c .pre), self .capacity), tt),
         ),
       ),
     )
@@ -30,4 +30,4 @@ ghost-self c =
 pub returns : need.returns
 returns c =
     let self = c .args .self .now in
-    listed-stood (self .units) (self .len) (c .args .place) (c .args .serving) _ (omega (arith, self .places, self .few)) (c .pre)
+    listed-standing (self .units) (self .len) (c .args .place) (c .args .serving) _ (omega (arith, self .places, self .few)) (c .pre)
