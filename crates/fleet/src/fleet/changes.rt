@@ -1,4 +1,4 @@
-// A fleet at its start, and what alters one. A refused call leaves the fleet as it stood.
+// A fleet at its start, and a unit added to it. A refused call leaves the fleet as it stood.
 ghost use mathlib.Core.Path.{_≡_};
 ghost use Rattle.fleet.specs.Refusals.{Outcome};
 ghost use Rattle.fleet.specs.Ledger.{opened};
