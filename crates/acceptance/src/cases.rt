@@ -2,9 +2,12 @@
 ghost use Prim.Native.Nat.{_≤_};
 use fleet::Fleet;
 use fleet::Refusal;
+use fleet::RefusalDebug;
+use rounding::FULL;
 use rounding::Nearest;
 use rounding::NearestRounding;
 use rounding::State;
+use std::test::*;
 
 // In service with certainty.
 pub const SURE: [State; 1] = [State {
@@ -73,4 +76,31 @@ pub(crate) fn refused(fleet: &mut Fleet, identity: u32, capacity: u32, states: &
 pub(crate) fn refused_by_open(identity: u32, capacity: u32, states: &[State]) -> u8 {
     let mut fleet = Fleet::open();
     refused(&mut fleet, identity, capacity, states)
+}
+
+// Checks entries, each given by place and parts, that come with one tolerance.
+pub(crate) fn check_entries(
+    fleet: &Fleet,
+    tolerance: u32,
+    expected: &[(u32, u64)],
+) -> Result<(), Fail> {
+    for (place, parts) in expected {
+        check_eq(fleet.entry(*place)?, (*parts, tolerance))?;
+    }
+    Ok(())
+}
+
+// Checks a fleet that has two units of capacity 3 in service.
+pub(crate) fn check_two_units(fleet: &Fleet, tolerance: u32) -> Result<(), Fail> {
+    let expected = [
+        (0, FULL),
+        (1, 39_600_000_000),
+        (3, 39_600_000_000),
+        (4, 400_000_000),
+        (6, 400_000_000),
+        (7, 0),
+    ];
+    check_entries(fleet, tolerance, &expected)?;
+    check_eq(fleet.capacity(), 6)?;
+    check_eq(fleet.greatest_outage(), 6)
 }

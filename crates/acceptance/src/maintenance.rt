@@ -3,6 +3,8 @@ ghost use Prim.Native.Nat.{_≤_};
 use crate::cases::FIVE;
 use crate::cases::SURE;
 use crate::cases::THREE;
+use crate::cases::check_entries;
+use crate::cases::check_two_units;
 use crate::cases::one_step;
 use fleet::Fleet;
 use fleet::RefusalDebug;
@@ -17,18 +19,6 @@ use rounding::Up;
 use rounding::UpRounding;
 use std::test::*;
 
-// Two units of capacity 3 in service, with this tolerance.
-fn two_units_left(fleet: &Fleet, tolerance: u32) -> Result<(), Fail> {
-    check_eq(fleet.entry(0)?, (FULL, tolerance))?;
-    check_eq(fleet.entry(1)?, (39_600_000_000, tolerance))?;
-    check_eq(fleet.entry(3)?, (39_600_000_000, tolerance))?;
-    check_eq(fleet.entry(4)?, (400_000_000, tolerance))?;
-    check_eq(fleet.entry(6)?, (400_000_000, tolerance))?;
-    check_eq(fleet.entry(7)?, (0, tolerance))?;
-    check_eq(fleet.capacity(), 6)?;
-    check_eq(fleet.greatest_outage(), 6)
-}
-
 #[test]
 fn a_withdrawal_undoes_an_add() -> Result<(), Fail> {
     let mut fleet = Fleet::open();
@@ -36,11 +26,11 @@ fn a_withdrawal_undoes_an_add() -> Result<(), Fail> {
     check_eq(fleet.add(&Nearest, 2, 3, &THREE)?, 2)?;
     check_eq(fleet.add(&Nearest, 3, 5, &FIVE)?, 3)?;
     check_eq(fleet.withdraw(&Nearest, 3)?, 5)?;
-    two_units_left(&fleet, 5)?;
+    check_two_units(&fleet, 5)?;
     check_eq(fleet.unit(1), Some((3, 1)))?;
     check_eq(fleet.unit(3), Some((5, 0)))?;
     check_eq(fleet.rebuild(&Nearest), 2)?;
-    two_units_left(&fleet, 2)
+    check_two_units(&fleet, 2)
 }
 
 // Three units of capacity 1 that are out with weight 1, one of them withdrawn and returned.
@@ -58,9 +48,7 @@ fn rare_units<R: Rounding>(rule: &R) -> Result<Fleet, Fail> {
 #[test]
 fn a_withdrawal_down() -> Result<(), Fail> {
     let mut fleet = rare_units(&Down)?;
-    check_eq(fleet.entry(1)?, (1_999_998, 5))?;
-    check_eq(fleet.entry(2)?, (0, 5))?;
-    check_eq(fleet.entry(3)?, (0, 5))?;
+    check_entries(&fleet, 5, &[(1, 1_999_998), (2, 0), (3, 0)])?;
     check_eq(fleet.return_unit(&Down, 2)?, 6)?;
     check_eq(fleet.entry(1)?, (2_999_996, 6))?;
     check_eq(fleet.entry(2)?, (1, 6))
@@ -69,9 +57,7 @@ fn a_withdrawal_down() -> Result<(), Fail> {
 #[test]
 fn a_withdrawal_up() -> Result<(), Fail> {
     let mut fleet = rare_units(&Up)?;
-    check_eq(fleet.entry(1)?, (2_000_000, 5))?;
-    check_eq(fleet.entry(2)?, (2, 5))?;
-    check_eq(fleet.entry(3)?, (0, 5))?;
+    check_entries(&fleet, 5, &[(1, 2_000_000), (2, 2), (3, 0)])?;
     check_eq(fleet.return_unit(&Up, 2)?, 6)?;
     check_eq(fleet.entry(2)?, (4, 6))?;
     check_eq(fleet.entry(3)?, (1, 6))
@@ -80,9 +66,7 @@ fn a_withdrawal_up() -> Result<(), Fail> {
 #[test]
 fn a_withdrawal_to_the_nearest() -> Result<(), Fail> {
     let mut fleet = rare_units(&Nearest)?;
-    check_eq(fleet.entry(1)?, (1_999_999, 5))?;
-    check_eq(fleet.entry(2)?, (1, 5))?;
-    check_eq(fleet.entry(3)?, (0, 5))?;
+    check_entries(&fleet, 5, &[(1, 1_999_999), (2, 1), (3, 0)])?;
     check_eq(fleet.return_unit(&Nearest, 2)?, 6)?;
     check_eq(fleet.unit(2), Some((1, 1)))?;
     check_eq(fleet.entry(1)?, (2_999_997, 6))?;
@@ -116,10 +100,11 @@ fn later_units_move_up() -> Result<(), Fail> {
     check_eq(fleet.retire(2)?, 3)?;
     check_eq(fleet.add(&Up, 5, 1, &one_step(99))?, 7)?;
     check_eq(fleet.rebuild(&Down), 4)?;
-    check_eq(fleet.entry(1)?, (200_557_513_121, 4))?;
-    check_eq(fleet.entry(2)?, (139_465_154, 4))?;
-    check_eq(fleet.entry(3)?, (21_722, 4))?;
-    check_eq(fleet.entry(4)?, (0, 4))
+    check_entries(
+        &fleet,
+        4,
+        &[(1, 200_557_513_121), (2, 139_465_154), (3, 21_722), (4, 0)],
+    )
 }
 
 #[test]
@@ -206,7 +191,9 @@ fn a_year_of_maintenance() -> Result<(), Fail> {
     check_eq(fleet.capacity(), 43)?;
     check_eq(fleet.greatest_outage(), 43)?;
     check_eq(fleet.rebuild(&Up), 6)?;
-    check_eq(fleet.entry(5)?, (113_004_004_951, 6))?;
-    check_eq(fleet.entry(20)?, (162_231_522, 6))?;
-    check_eq(fleet.entry(40)?, (147, 6))
+    check_entries(
+        &fleet,
+        6,
+        &[(5, 113_004_004_951), (20, 162_231_522), (40, 147)],
+    )
 }

@@ -1,4 +1,5 @@
 // Sheets, and each fault at its edge.
+use crate::cases::check_entries;
 use fleet::Fleet;
 use fleet::RefusalDebug;
 use indices::StoppedDisplay;
@@ -30,9 +31,7 @@ fn three_units() -> Result<(), Fail> {
     let sheet = b"id,cap,rate,part,prate\n1,3,20000,0,0\n2,3,20000,0,0\n3,5,7000,2,33000\n";
     let mut fleet = Fleet::open();
     check(intake(&mut fleet, &Nearest, sheet).is_ok())?;
-    check_eq(fleet.entry(3)?, (46_322_800_000, 3))?;
-    check_eq(fleet.entry(11)?, (2_800_000, 3))?;
-    check_eq(fleet.entry(12)?, (0, 3))
+    check_entries(&fleet, 3, &[(3, 46_322_800_000), (11, 2_800_000), (12, 0)])
 }
 
 #[test]
@@ -41,9 +40,11 @@ fn names_in_another_order() -> Result<(), Fail> {
     let mut fleet = Fleet::open();
     check(intake(&mut fleet, &Nearest, sheet).is_ok())?;
     check_eq(fleet.unit(3), Some((5, 1)))?;
-    check_eq(fleet.entry(2)?, (40_000_000_000, 1))?;
-    check_eq(fleet.entry(5)?, (7_000_000_000, 1))?;
-    check_eq(fleet.entry(6)?, (0, 1))
+    check_entries(
+        &fleet,
+        1,
+        &[(2, 40_000_000_000), (5, 7_000_000_000), (6, 0)],
+    )
 }
 
 #[test]
@@ -296,15 +297,21 @@ fn twenty_units() -> Result<(), Fail> {
     let mut fleet = Fleet::open();
     check(intake(&mut fleet, &Nearest, sheet).is_ok())?;
     check_eq(fleet.greatest_outage(), 812)?;
-    check_eq(fleet.entry(1)?, (799_306_404_821, 20))?;
-    check_eq(fleet.entry(2)?, (795_904_818_460, 20))?;
-    check_eq(fleet.entry(10)?, (716_103_691_300, 20))?;
-    check_eq(fleet.entry(50)?, (530_548_039_355, 20))?;
-    check_eq(fleet.entry(100)?, (296_815_582_125, 20))?;
-    check_eq(fleet.entry(200)?, (38_139_601_349, 20))?;
-    check_eq(fleet.entry(300)?, (2_424_729_398, 20))?;
-    check_eq(fleet.entry(400)?, (73_531_435, 20))?;
-    check_eq(fleet.entry(500)?, (517_231, 20))?;
-    check_eq(fleet.entry(600)?, (896, 20))?;
-    check_eq(fleet.entry(700)?, (0, 20))
+    check_entries(
+        &fleet,
+        20,
+        &[
+            (1, 799_306_404_821),
+            (2, 795_904_818_460),
+            (10, 716_103_691_300),
+            (50, 530_548_039_355),
+            (100, 296_815_582_125),
+            (200, 38_139_601_349),
+            (300, 2_424_729_398),
+            (400, 73_531_435),
+            (500, 517_231),
+            (600, 896),
+            (700, 0),
+        ],
+    )
 }

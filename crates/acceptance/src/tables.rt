@@ -1,6 +1,8 @@
 // Tables that can be recomputed by hand.
 use crate::cases::FIVE;
 use crate::cases::THREE;
+use crate::cases::check_entries;
+use crate::cases::check_two_units;
 use fleet::Fleet;
 use fleet::RefusalDebug;
 use rounding::Down;
@@ -17,9 +19,7 @@ use std::test::*;
 #[test]
 fn an_open_fleet_has_nothing_out() -> Result<(), Fail> {
     let fleet = Fleet::open();
-    check_eq(fleet.entry(0)?, (FULL, 0))?;
-    check_eq(fleet.entry(1)?, (0, 0))?;
-    check_eq(fleet.entry(1_000)?, (0, 0))?;
+    check_entries(&fleet, 0, &[(0, FULL), (1, 0), (1_000, 0)])?;
     check_eq(fleet.capacity(), 0)?;
     check_eq(fleet.greatest_outage(), 0)
 }
@@ -29,14 +29,7 @@ fn two_units_of_three() -> Result<(), Fail> {
     let mut fleet = Fleet::open();
     check_eq(fleet.add(&Nearest, 1, 3, &THREE)?, 1)?;
     check_eq(fleet.add(&Nearest, 2, 3, &THREE)?, 2)?;
-    check_eq(fleet.entry(0)?, (FULL, 2))?;
-    check_eq(fleet.entry(1)?, (39_600_000_000, 2))?;
-    check_eq(fleet.entry(3)?, (39_600_000_000, 2))?;
-    check_eq(fleet.entry(4)?, (400_000_000, 2))?;
-    check_eq(fleet.entry(6)?, (400_000_000, 2))?;
-    check_eq(fleet.entry(7)?, (0, 2))?;
-    check_eq(fleet.capacity(), 6)?;
-    check_eq(fleet.greatest_outage(), 6)
+    check_two_units(&fleet, 2)
 }
 
 #[test]
@@ -45,13 +38,19 @@ fn a_unit_with_a_partial_outage() -> Result<(), Fail> {
     check_eq(fleet.add(&Nearest, 1, 3, &THREE)?, 1)?;
     check_eq(fleet.add(&Nearest, 2, 3, &THREE)?, 2)?;
     check_eq(fleet.add(&Nearest, 3, 5, &FIVE)?, 3)?;
-    check_eq(fleet.entry(2)?, (78_016_000_000, 3))?;
-    check_eq(fleet.entry(3)?, (46_322_800_000, 3))?;
-    check_eq(fleet.entry(5)?, (8_690_800_000, 3))?;
-    check_eq(fleet.entry(6)?, (674_400_000, 3))?;
-    check_eq(fleet.entry(8)?, (290_400_000, 3))?;
-    check_eq(fleet.entry(11)?, (2_800_000, 3))?;
-    check_eq(fleet.entry(12)?, (0, 3))?;
+    check_entries(
+        &fleet,
+        3,
+        &[
+            (2, 78_016_000_000),
+            (3, 46_322_800_000),
+            (5, 8_690_800_000),
+            (6, 674_400_000),
+            (8, 290_400_000),
+            (11, 2_800_000),
+            (12, 0),
+        ],
+    )?;
     check_eq(fleet.unit(3), Some((5, 1)))?;
     check_eq(fleet.unit(4), None)?;
     check_eq(fleet.capacity(), 11)?;
@@ -74,11 +73,11 @@ fn rare_outages<R: Rounding>(rule: &R, one: u64, two: u64, three: u64) -> Result
     check_eq(fleet.add(rule, 1, 1, &states)?, 1)?;
     check_eq(fleet.add(rule, 2, 1, &states)?, 2)?;
     check_eq(fleet.add(rule, 3, 1, &states)?, 3)?;
-    check_eq(fleet.entry(0)?, (FULL, 3))?;
-    check_eq(fleet.entry(1)?, (one, 3))?;
-    check_eq(fleet.entry(2)?, (two, 3))?;
-    check_eq(fleet.entry(3)?, (three, 3))?;
-    check_eq(fleet.entry(4)?, (0, 3))
+    check_entries(
+        &fleet,
+        3,
+        &[(0, FULL), (1, one), (2, two), (3, three), (4, 0)],
+    )
 }
 
 #[test]
