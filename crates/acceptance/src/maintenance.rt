@@ -87,24 +87,23 @@ fn nothing_is_left_without_units() -> Result<(), Fail> {
     check_eq(fleet.entry(0)?, (FULL, 0))
 }
 
-// Under down the digits of four units depend on their order: with the last two exchanged, entry 1
-// would be 200,557,513,120 and entry 3 would be 21,721.
+// Under down the digits of five units depend on their order. Entry 1 would be one part less in
+// reverse order, with the last two exchanged, with the new unit in the place that was freed, and
+// with the last unit moved there. The digits come from a separate program.
 #[test]
 fn later_units_move_up() -> Result<(), Fail> {
     let mut fleet = Fleet::open();
-    check_eq(fleet.add(&Up, 1, 1, &one_step(499))?, 1)?;
-    check_eq(fleet.add(&Up, 2, 1, &one_step(5))?, 2)?;
-    check_eq(fleet.add(&Up, 3, 1, &one_step(99))?, 3)?;
-    check_eq(fleet.add(&Up, 4, 1, &one_step(200_000))?, 4)?;
-    check_eq(fleet.withdraw(&Up, 2)?, 6)?;
-    check_eq(fleet.retire(2)?, 3)?;
-    check_eq(fleet.add(&Up, 5, 1, &one_step(99))?, 7)?;
-    check_eq(fleet.rebuild(&Down), 4)?;
-    check_entries(
-        &fleet,
-        4,
-        &[(1, 200_557_513_121), (2, 139_465_154), (3, 21_722), (4, 0)],
-    )
+    check_eq(fleet.add(&Up, 1, 1, &one_step(11))?, 1)?;
+    check_eq(fleet.add(&Up, 2, 1, &one_step(7))?, 2)?;
+    check_eq(fleet.add(&Up, 3, 1, &one_step(33_333))?, 3)?;
+    check_eq(fleet.add(&Up, 4, 1, &one_step(1_001))?, 4)?;
+    check_eq(fleet.add(&Up, 5, 1, &one_step(7))?, 5)?;
+    check_eq(fleet.withdraw(&Up, 2)?, 7)?;
+    check_eq(fleet.retire(2)?, 4)?;
+    check_eq(fleet.add(&Up, 6, 1, &one_step(99))?, 8)?;
+    check_eq(fleet.rebuild(&Down), 5)?;
+    let expected = [(1, 34_413_618_697), (2, 37_377_333), (3, 3_967), (4, 0)];
+    check_entries(&fleet, 5, &expected)
 }
 
 #[test]
