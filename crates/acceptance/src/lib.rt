@@ -1,5 +1,7 @@
 // Worked examples of tables, maintenance, refusals, sheets, loads, indices and rates. Expected values were
 // found by hand, in a textbook or by a separate program.
+#![tactic(auto)]
+
 #[cfg(test)]
 mod cases;
 #[cfg(test)]

@@ -1,4 +1,6 @@
 // copt: reads a unit sheet from standard input and prints its capacity outage table.
+#![tactic(auto)]
+
 use fleet::Fleet;
 use indices::intake;
 use rounding::Nearest;

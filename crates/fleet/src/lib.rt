@@ -1,4 +1,6 @@
 // A fleet of generating units: its register, its capacity outage table and the table's tolerance.
+#![tactic(auto)]
+
 mod fleet;
 mod record;
 mod refusal;

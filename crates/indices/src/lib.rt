@@ -1,5 +1,7 @@
 // Load models, and unit sheets: from bytes to rows, and from rows to units of a fleet, up to the
 // first fault.
+#![tactic(auto)]
+
 mod byte;
 mod fault;
 mod line;

@@ -41,7 +41,7 @@ impl fmt::Display for Stopped {
 fn take_row<R: Rounding>(fleet: &mut Fleet, rule: &R, row: &Row) -> Result<(), Fault>
     requires { row.now.rate + row.now.prate ≤ 999999 }
     ensures answer { elim result [ Ok _ ↦ row_refusal (ledger_of fleet.old) row.now ≡ None | Err fault ↦ option_map (refused_row row.now.line) (row_refusal (ledger_of fleet.old) row.now) ≡ Some (report fault) ] }
-    ensures after { ledger_of fleet.new ≡ after_row (answer rule.now) (ledger_of fleet.old) row.now }
+    ensures after { ledger_of fleet.new ≡ after_row (R.answer rule.now) (ledger_of fleet.old) row.now }
 {
     let states = row.states();
     match fleet.add(rule, row.id, row.cap, &states.at[0..states.count]) {
@@ -63,7 +63,7 @@ fn take_rows<R: Rounding>(
 ) -> Result<(), Fault>
     requires standing { BetweenRows rows.old }
     requires none { added.old ≡ 0 }
-    ensures { Took (taken_sheet (answer rule.now) (remaining rows.old) (ledger_of fleet.old) 0) (ledger_of fleet.new) added.new (told result) }
+    ensures { Took (taken_sheet (R.answer rule.now) (remaining rows.old) (ledger_of fleet.old) 0) (ledger_of fleet.new) added.new (told result) }
 {
     while let Some(row) = rows.next_row()? {
         take_row(fleet, rule, &row)?;
@@ -80,7 +80,7 @@ fn take_sheet<R: Rounding>(
     added: &mut u32,
 ) -> Result<(), Fault>
     requires { added.old ≡ 0 }
-    ensures { Took (intake_of (answer rule.now) sheet.now (ledger_of fleet.old)) (ledger_of fleet.new) added.new (told result) }
+    ensures { Took (intake_of (R.answer rule.now) sheet.now (ledger_of fleet.old)) (ledger_of fleet.new) added.new (told result) }
 {
     let mut rows = Rows::open(sheet)?;
     take_rows(fleet, rule, &mut rows, added)
@@ -89,8 +89,8 @@ fn take_sheet<R: Rounding>(
 // Adds the units of a sheet, row by row. Answers how many were added, or the first fault with the
 // number added before it; what was added stays.
 pub fn intake<R: Rounding>(fleet: &mut Fleet, rule: &R, sheet: &[u8]) -> Result<u32, Stopped>
-    ensures answer { Answers (intake_of (answer rule.now) sheet.now (ledger_of fleet.old)) result }
-    ensures after { ledger_of fleet.new ≡ (intake_of (answer rule.now) sheet.now (ledger_of fleet.old)).ledger }
+    ensures answer { Answers (intake_of (R.answer rule.now) sheet.now (ledger_of fleet.old)) result }
+    ensures after { ledger_of fleet.new ≡ (intake_of (R.answer rule.now) sheet.now (ledger_of fleet.old)).ledger }
     ensures growth { length (ledger_of fleet.new).units ≡ length (ledger_of fleet.old).units + added_by result }
 {
     let mut added = 0;

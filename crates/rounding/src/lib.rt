@@ -1,4 +1,6 @@
 // Rounding rules, and the recursion that adds a unit to a capacity outage table, with its reverse.
+#![tactic(auto)]
+
 mod removal;
 mod rule;
 mod rules;

@@ -33,7 +33,7 @@ fn entry_without<R: Rounding>(
     requires within { k < length entries.now }
     requires shares { weights rest.now ≤ million }
     requires entries_fit { (i : ℕ) → slice_index entries.now i ≤ full }
-    ensures { result ≡ entry_without (answer rule.now) first.now rest.now greatest entries.now entries.now k }
+    ensures { result ≡ entry_without (R.answer rule.now) first.now rest.now greatest entries.now entries.now k }
 {
     if k > greatest {
         return 0;
@@ -50,7 +50,7 @@ pub fn remove<R: Rounding>(rule: &R, states: &[State], greatest: usize, entries:
     requires mostly { 500000 < first_weight states.now }
     requires certain { slice_index entries.old 0 ≡ full }
     requires falling { Falling entries.old }
-    ensures entries { entries.new ≡ without (answer rule.now) states.now greatest entries.old }
+    ensures entries { entries.new ≡ without (R.answer rule.now) states.now greatest entries.old }
     ensures certain { slice_index entries.new 0 ≡ full }
     ensures falling { Falling entries.new }
     ensures zeros { Zeros greatest entries.new }

@@ -48,7 +48,7 @@ pub fn add<R: Rounding>(rule: &R, states: &[State], entries: &mut [u64])
     requires shares { weights states.now ≡ million }
     requires certain { slice_index entries.old 0 ≡ full }
     requires falling { Falling entries.old }
-    ensures entries { entries.new ≡ added (answer rule.now) states.now entries.old }
+    ensures entries { entries.new ≡ added (R.answer rule.now) states.now entries.old }
     ensures certain { slice_index entries.new 0 ≡ full }
     ensures falling { Falling entries.new }
     ensures zeros { (m most : ℕ) → Outages most states.now → Zeros m entries.old → Zeros (m + most) entries.new }

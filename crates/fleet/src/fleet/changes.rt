@@ -36,7 +36,7 @@ impl Fleet {
         states: &[State],
     ) -> Result<u32, Refusal>
         ensures answer { Outcome (add_refusal (ledger_of self.old) identity capacity states.now) result (λ t. t ≡ raised_by_one (ledger_of self.old).tolerance) }
-        ensures after { ledger_of self.new ≡ after_add (answer rule.now) (ledger_of self.old) identity capacity states.now }
+        ensures after { ledger_of self.new ≡ after_add (R.answer rule.now) (ledger_of self.old) identity capacity states.now }
     {
         let unit = UnitRecord::checked(identity, capacity, states)?;
         self.register.room(identity, capacity)?;

@@ -23,7 +23,7 @@ impl Fleet {
     // tolerance.
     pub fn withdraw<R: Rounding>(&mut self, rule: &R, identity: u32) -> Result<u32, Refusal>
         ensures answer { Outcome (withdraw_refusal (ledger_of self.old) identity) result (λ t. t ≡ withdrawn_tolerance (unit_with identity (ledger_of self.old).units).states (ledger_of self.old).tolerance) }
-        ensures after { ledger_of self.new ≡ after_withdraw (answer rule.now) (ledger_of self.old) identity }
+        ensures after { ledger_of self.new ≡ after_withdraw (R.answer rule.now) (ledger_of self.old) identity }
     {
         let Some(place) = self.register.find(identity) else {
             return Err(Refusal::NotRegistered);
@@ -41,7 +41,7 @@ impl Fleet {
     // the new tolerance.
     pub fn return_unit<R: Rounding>(&mut self, rule: &R, identity: u32) -> Result<u32, Refusal>
         ensures answer { Outcome (return_refusal (ledger_of self.old) identity) result (λ t. t ≡ raised_by_one (ledger_of self.old).tolerance) }
-        ensures after { ledger_of self.new ≡ after_return (answer rule.now) (ledger_of self.old) identity }
+        ensures after { ledger_of self.new ≡ after_return (R.answer rule.now) (ledger_of self.old) identity }
     {
         let Some(place) = self.register.find(identity) else {
             return Err(Refusal::NotRegistered);
@@ -71,7 +71,7 @@ impl Fleet {
     // the tolerance, which is their number.
     pub fn rebuild<R: Rounding>(&mut self, rule: &R) -> u32
         ensures answer { result ≡ length (in_service (ledger_of self.old).units) }
-        ensures after { ledger_of self.new ≡ after_rebuild (answer rule.now) (ledger_of self.old) }
+        ensures after { ledger_of self.new ≡ after_rebuild (R.answer rule.now) (ledger_of self.old) }
     {
         let mut table = open_table();
         let count = build(rule, self.register.registered(), &mut table);

@@ -26,7 +26,7 @@ fn add_if_serving<R: Rounding>(rule: &R, unit: &UnitRecord, table: &mut [u64]) -
     requires lawful { lawful (unit_of unit.now).capacity (unit_of unit.now).states ≡ true }
     requires certain { slice_index table.old 0 ≡ full }
     requires falling { Falling table.old }
-    ensures entries { table.new ≡ (if unit.now.serving then added (answer rule.now) (unit_of unit.now).states table.old else table.old) }
+    ensures entries { table.new ≡ (if unit.now.serving then added (R.answer rule.now) (unit_of unit.now).states table.old else table.old) }
     ensures certain { slice_index table.new 0 ≡ full }
     ensures falling { Falling table.new }
     ensures zeros { (m : ℕ) → Zeros m table.old → Zeros (m + share Outage (unit_of unit.now)) table.new }
@@ -45,7 +45,7 @@ pub(super) fn build<R: Rounding>(rule: &R, units: &[UnitRecord], table: &mut [u6
     requires lawful { all_lawful (map unit_of units.now) ≡ true }
     requires few { length units.now ≤ 64 }
     requires open { table.old ≡ open_table }
-    ensures entries { table.new ≡ table_of (answer rule.now) (in_service (map unit_of units.now)) }
+    ensures entries { table.new ≡ table_of (R.answer rule.now) (in_service (map unit_of units.now)) }
     ensures certain { slice_index table.new 0 ≡ full }
     ensures falling { Falling table.new }
     ensures zeros { Zeros (greatest_outage (map unit_of units.now)) table.new }

@@ -7,8 +7,8 @@ use Rattle.fleet.proofs.states.lawful.Goals as goal
 abbrev nothing : State
 nothing = record { outage = 0; weight = 0 }
 
-pub returns-in-default : goal.returns-in-default
-returns-in-default c = sym (lawful_none c.args.capacity c.args.states.now (search rules))
+pub returns-in_default : goal.returns-in_default
+returns-in_default c = sym (lawful_none c.args.capacity c.args.states.now (search rules))
 
 pub returns-then-states-gt-STATES : goal.returns-then-states-gt-STATES
 returns-then-states-gt-STATES c =
@@ -32,5 +32,5 @@ returns c =
     ∙ and_true _ _ (le-leb _ 8 c.if-states-gt-STATES.false)
     ∙ and_true _ _ (sym c.if-not-starts.ensures)
     ∙ and_true _ _ (sym c.if-not-later.ensures)
-    ∙ ap (λ w. eqb w 1000000) (sym c.total-weight.ensures)
-    ∙ ap (eqb c.total-weight.result) (sym c.from.ensures))
+    ∙ ap (λ w. eqb w 1000000) (sym c.total_weight.ensures)
+    ∙ ap (eqb c.total_weight.result) (sym c.from.ensures))

@@ -15,19 +15,19 @@ pub loop-day-init : goal.loop-day-init
 loop-day-init g c =
     (sym (lost_none (ledger_of c.args.fleet.now) (g.L.LoadModel.loads c.args.model.now)), omega arith, sym (zero-mul c.args.fleet.now.tolerance), λ day h. absurd (omega arith))
 
-pub returns-in-err-load : goal.returns-in-err-load
-returns-in-err-load g c =
-    let p = err_from_is_err_and c.from-residual.result c.from-residual.ensures.1 in
-    rw (p.1, p.2) (limit_passed (g.L.LoadModel.loads c.args.model.now) c.loop-day.day (omega arith) _ c.in-err-load.ensures)
+pub returns-in_err-load : goal.returns-in_err-load
+returns-in_err-load g c =
+    let p = err_from_is_err_and c.from_residual.result c.from_residual.ensures.1 in
+    rw (p.1, p.2) (limit_passed (g.L.LoadModel.loads c.args.model.now) c.loop-day.day (omega arith) _ c.in_err-load.ensures)
 
-pub overflow-add-sum : goal.overflow-add-sum
-overflow-add-sum g c =
+pub overflow_add-sum : goal.overflow_add-sum
+overflow_add-sum g c =
     let few = (g.L.LoadModel.bounded c.args.model.now).few in
     let small : c.loss-parts.result.0 ≤ full = rw c.loss-parts.ensures.parts (loss_le (ledger_of c.args.fleet.now) c.args.fleet.now.certain c.args.fleet.now.falling _) in
     omega arith
 
-pub overflow-add-bound : goal.overflow-add-bound
-overflow-add-bound g c =
+pub overflow_add-bound : goal.overflow_add-bound
+overflow_add-bound g c =
     let few = (g.L.LoadModel.bounded c.args.model.now).few in
     let early : c.loop-day.day ≤ most_days = omega arith in
     let bound = mul-le-mul_right c.args.fleet.now.tolerance early in
@@ -40,7 +40,7 @@ loop-day-preserved g c =
     let fleet = c.args.fleet.now in
     let day = c.loop-day.day in
     let inside : day < length loads = omega arith in
-    let told = c.in-ok-load.ensures in
+    let told = c.in_ok-load.ensures in
     let small : c.loss-parts.result.0 ≤ full = rw c.loss-parts.ensures.parts (loss_le (ledger_of c.args.fleet.now) c.args.fleet.now.certain c.args.fleet.now.falling _) in
     let here = ltb-false limit (get_or loads day 0) (accepted _ AboveLimit told.0) in
     let more = lost_more (ledger_of fleet) loads day inside in (

@@ -13,6 +13,6 @@ returns-in-Err c =
     let place = c.in-Some.ensures in
     let past = before_past fleet.table (c.args.capacity + 1) c.args.load (omega arith) (omega arith) in
     record {
-      parts = sym (ap (λ capacity. entry_before fleet.table (capacity + 1) c.args.load) (sym c.requires.in-service) ∙ past);
+      parts = sym (ap (λ capacity. entry_before fleet.table (capacity + 1) c.args.load) (sym c.requires.in_service) ∙ past);
       tolerance = search rules;
     }

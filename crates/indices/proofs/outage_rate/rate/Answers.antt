@@ -13,8 +13,8 @@ rate_le forced service few-forced few-service some =
     let wide = mul-le-mul_right million share in
     lt_of_mul-lt-mul_right (forced + service) (omega (arith, add-mul million 1 (forced + service)))
 
-pub overflow-cast-result : goal.overflow-cast-result
-overflow-cast-result c =
+pub overflow_cast-result : goal.overflow_cast-result
+overflow_cast-result c =
     let small = rate_le c.args.forced c.args.service (omega arith) (omega arith) (omega arith) in
     let is : c.round.result ≡ forced_outage_rate c.args.forced c.args.service = rw (c.from.ensures, c.from-2.ensures) at c.round.ensures.value in
     rw is (omega arith)

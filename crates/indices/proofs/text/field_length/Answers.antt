@@ -7,12 +7,12 @@ pub returns-in-Comma : goal.returns-in-Comma
 returns-in-Comma c = record {
   within = omega arith;
   inside = c.loop-i.invariant;
-  ended = ap ends (sym c.kind-of.ensures) ∙ ends_field c.kind-of.result c.in-Comma.is;
+  ended = ap ends (sym c.kind_of.ensures) ∙ ends_field c.kind_of.result c.in-Comma.is;
 }
 
 pub loop-i-preserved : goal.loop-i-preserved
 loop-i-preserved c =
-    below_more _ _ c.loop-i.invariant (ap ends (sym c.kind-of.ensures) ∙ in_field c.kind-of.result c.in-Digit.is)
+    below_more _ _ c.loop-i.invariant (ap ends (sym c.kind_of.ensures) ∙ in_field c.kind_of.result c.in-Digit.is)
 
 -- the loop does not run to the end of such a line
 pub returns : goal.returns

@@ -9,8 +9,8 @@ use Rattle.indices.proofs.unit_intake.take_rows.Goals as goal
 use Rattle.indices.proofs.unit_intake.take_rows.Goals.{In-Some}
 
 -- the row that was read
-read : (g : given.Over) (c : In-Some g) → RowRead c.loop-row.rows c.in-Some.row c.next-row.new.self
-read g c = some_row c.loop-row.rows c.next-row.new.self c.in-ok-row.field-0 c.in-Some.row c.in-Some.is c.in-ok-row.ensures
+read : (g : given.Over) (c : In-Some g) → RowRead c.loop-row.rows c.in-Some.row c.next_row.new.self
+read g c = some_row c.loop-row.rows c.next_row.new.self c.in_ok-row.field-0 c.in-Some.row c.in-Some.is c.in_ok-row.ensures
 
 pub loop-row-init : goal.loop-row-init
 loop-row-init g c = record {
@@ -19,24 +19,24 @@ loop-row-init g c = record {
   bound = omega arith;
 }
 
-pub next-row-requires : goal.next-row-requires
-next-row-requires g c = c.loop-row.invariant.standing
+pub next_row-requires : goal.next_row-requires
+next_row-requires g c = c.loop-row.invariant.standing
 
-pub returns-in-err-row : goal.returns-in-err-row
-returns-in-err-row g c =
-    let p = err_from_is_err_and c.from-residual.result c.from-residual.ensures.1 in
+pub returns-in_err-row : goal.returns-in_err-row
+returns-in_err-row g c =
+    let p = err_from_is_err_and c.from_residual.result c.from_residual.ensures.1 in
     rw (p.1, p.2)
-    (took _ _ _ _ (sym (taken_rowless _ _ _ (ledger_of c.loop-row.fleet) c.loop-row.added c.in-err-row.ensures) ∙ c.loop-row.invariant.same))
+    (took _ _ _ _ (sym (taken_rowless _ _ _ (ledger_of c.loop-row.fleet) c.loop-row.added c.in_err-row.ensures) ∙ c.loop-row.invariant.same))
 
-pub returns-in-err-take-row : goal.returns-in-err-take-row
-returns-in-err-take-row g c =
-    let p = err_from_is_err_and c.from-residual-in-err-take-row.result c.from-residual-in-err-take-row.ensures.1 in
-    let row = read g (goal.at.returns-in-err-take-row g c).In-Some in
-    let refused = taken_refused _ c.loop-row.rows c.next-row.new.self c.in-Some.row row (ledger_of c.loop-row.fleet) c.loop-row.added _ c.take-row.ensures.after _ c.in-err-take-row.ensures.answer in
+pub returns-in_err-take_row : goal.returns-in_err-take_row
+returns-in_err-take_row g c =
+    let p = err_from_is_err_and c.from_residual-in_err-take_row.result c.from_residual-in_err-take_row.ensures.1 in
+    let row = read g (goal.at.returns-in_err-take_row g c).In-Some in
+    let refused = taken_refused _ c.loop-row.rows c.next_row.new.self c.in-Some.row row (ledger_of c.loop-row.fleet) c.loop-row.added _ c.take_row.ensures.after _ c.in_err-take_row.ensures.answer in
     rw (p.1, p.2) (took _ _ _ _ (refused ∙ c.loop-row.invariant.same))
 
-pub overflow-add-added : goal.overflow-add-added
-overflow-add-added g c = omega (arith, c.loop-row.invariant.bound, (read g (goal.at.overflow-add-added g c).In-Some).shorter, c.requires.standing.start.fits)
+pub overflow_add-added : goal.overflow_add-added
+overflow_add-added g c = omega (arith, c.loop-row.invariant.bound, (read g (goal.at.overflow_add-added g c).In-Some).shorter, c.requires.standing.start.fits)
 
 pub loop-row-smaller : goal.loop-row-smaller
 loop-row-smaller g c = (read g (goal.at.loop-row-smaller g c).In-Some).shorter
@@ -44,7 +44,7 @@ loop-row-smaller g c = (read g (goal.at.loop-row-smaller g c).In-Some).shorter
 pub loop-row-preserved : goal.loop-row-preserved
 loop-row-preserved g c =
     let row = read g (goal.at.loop-row-preserved g c).In-Some in
-    let accepted = taken_accepted _ c.loop-row.rows c.next-row.new.self c.in-Some.row row (ledger_of c.loop-row.fleet) c.loop-row.added _ c.take-row.ensures.after c.in-ok-take-row.ensures.answer in
+    let accepted = taken_accepted _ c.loop-row.rows c.next_row.new.self c.in-Some.row row (ledger_of c.loop-row.fleet) c.loop-row.added _ c.take_row.ensures.after c.in_ok-take_row.ensures.answer in
     record {
       same = accepted ∙ c.loop-row.invariant.same;
       standing = row.standing;
@@ -54,4 +54,4 @@ loop-row-preserved g c =
 pub returns : goal.returns
 returns g c =
     took _ _ _ _
-    (sym (taken_rowless _ _ _ (ledger_of c.loop-row.fleet) c.loop-row.added (no_row c.loop-row.rows c.next-row.new.self c.in-ok-row.field-0 c.in-default.is c.in-ok-row.ensures)) ∙ c.loop-row.invariant.same)
+    (sym (taken_rowless _ _ _ (ledger_of c.loop-row.fleet) c.loop-row.added (no_row c.loop-row.rows c.next_row.new.self c.in_ok-row.field-0 c.in_default.is c.in_ok-row.ensures)) ∙ c.loop-row.invariant.same)

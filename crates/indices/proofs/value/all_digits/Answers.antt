@@ -4,9 +4,9 @@ use Rattle.indices.specs.Value.{digit, digits}
 use Rattle.indices.proofs.Digits.{not_digit, digits_on, digits_off}
 use Rattle.indices.proofs.value.all_digits.Goals as goal
 
-pub returns-in-default : goal.returns-in-default
-returns-in-default c =
-    let off = not_digit _ (λ d e. c.in-default.not-Digit d (c.kind-of.ensures ∙ e)) in
+pub returns-in_default : goal.returns-in_default
+returns-in_default c =
+    let off = not_digit _ (λ d e. c.in_default.not-Digit d (c.kind_of.ensures ∙ e)) in
     sym (digits_off c.args.bytes.now c.loop-b.b-index c.loop-b-test.true off) ∙ c.loop-b.invariant
 
 pub loop-b-preserved : goal.loop-b-preserved

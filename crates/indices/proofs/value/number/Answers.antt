@@ -5,17 +5,17 @@ use Rattle.indices.specs.Value.{value}
 use Rattle.indices.proofs.Digits.{digit_value, not_digit, digit_at, value_more, below_more, below_seven}
 use Rattle.indices.proofs.value.number.Goals as goal
 
-pub overflow-mul-n : goal.overflow-mul-n
-overflow-mul-n c = let h = below_seven _ _ c.loop-b.invariant.1 (omega arith) in omega arith
+pub overflow_mul-n : goal.overflow_mul-n
+overflow_mul-n c = let h = below_seven _ _ c.loop-b.invariant.1 (omega arith) in omega arith
 
-pub overflow-add-n : goal.overflow-add-n
-overflow-add-n c =
+pub overflow_add-n : goal.overflow_add-n
+overflow_add-n c =
     let h = below_seven _ _ c.loop-b.invariant.1 (omega arith) in
     omega (arith, digit_value (get_or c.args.bytes.now c.loop-b.b-index 0) _ (sym c.in-Digit.ensures))
 
 pub unreachable-requires : goal.unreachable-requires
 unreachable-requires c =
-    both_ways _ (not_digit _ (λ d e. c.in-default.not-Digit d (c.kind-of.ensures ∙ e)))
+    both_ways _ (not_digit _ (λ d e. c.in_default.not-Digit d (c.kind_of.ensures ∙ e)))
     (digit_at c.args.bytes.now c.loop-b.b-index c.loop-b-test.true c.requires.digits)
 
 pub loop-b-preserved : goal.loop-b-preserved

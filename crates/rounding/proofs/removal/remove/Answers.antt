@@ -20,12 +20,12 @@ asks g c =
     let p = c.requires in
     asked_of c.args.states.now _ _ (states_apart c.args.states.now nothing (search rules)) p.shares p.starting p.mostly
 
-pub returns-in-default : goal.returns-in-default
-returns-in-default g c = absurd (starting_some c.args.states.now (search rules) c.requires.starting)
+pub returns-in_default : goal.returns-in_default
+returns-in_default g c = absurd (starting_some c.args.states.now (search rules) c.requires.starting)
 
-pub entry-without-requires : goal.entry-without-requires
-entry-without-requires g c =
-    let of = asks g (goal.at.entry-without-requires g c).In-len1-up in
+pub entry_without-requires : goal.entry_without-requires
+entry_without-requires g c =
+    let of = asks g (goal.at.entry_without-requires g c).In-len1-up in
     record {
       within = omega arith;
       shares = omega (arith, of.shares);
@@ -38,7 +38,7 @@ loop-k-init g c = record { places = refl; made = λ j h. absurd (omega arith); k
 pub loop-k-preserved : goal.loop-k-preserved
 loop-k-preserved g c =
     let of = asks g (goal.at.loop-k-preserved g c).In-len1-up in
-    partly_more _ _ _ of.later _ _ _ _ _ c.loop-k-test.true c.loop-k.invariant c.entry-without.ensures
+    partly_more _ _ _ of.later _ _ _ _ _ c.loop-k-test.true c.loop-k.invariant c.entry_without.ensures
 
 pub returns : goal.returns
 returns g c =

@@ -10,21 +10,21 @@ use Rattle.fleet.proofs.fleet.Fleet.add.Goals as goal
 
 pub add-requires : goal.add-requires
 add-requires g c =
-    let lawful = accepted_lawful c.args.identity c.args.capacity c.args.states.now c.in-ok-unit.ensures.0 in
+    let lawful = accepted_lawful c.args.identity c.args.capacity c.args.states.now c.in_ok-unit.ensures.0 in
     let self = c.args.self.now in
     record { shares = (ruled c.args.capacity c.args.states.now lawful).shares; certain = self.certain; falling = self.falling }
 
-pub invariant-of-self : goal.invariant-of-self
-invariant-of-self g c =
+pub invariant_of-self : goal.invariant_of-self
+invariant_of-self g c =
     let self = c.args.self.now in
     let told = c.add.ensures in
     let states = c.args.states.now in
-    let lawful = accepted_lawful c.args.identity c.args.capacity states c.in-ok-unit.ensures.0 in
+    let lawful = accepted_lawful c.args.identity c.args.capacity states c.in_ok-unit.ensures.0 in
     let last = (ruled c.args.capacity states lawful).outages in
-    let unit = c.in-ok-unit.ensures.1 in
+    let unit = c.in_ok-unit.ensures.1 in
     let pushed = c.push.ensures ∙ ap (λ u. units_of self.register ++ u ∷ []) unit in
     let most = added_outage (units_of self.register) (units_of c.push.new.self) c.args.identity c.args.capacity states pushed in
-    let risen = c.in-ok-tolerance.ensures in (
+    let risen = c.in_ok-tolerance.ensures in (
       ap length told.entries ∙ length_added _ states self.table ∙ self.places,
       (
         told.certain,
@@ -41,9 +41,9 @@ invariant-of-self g c =
 pub returns : goal.returns
 returns g c =
     let self = c.args.self.now in
-    let unit = c.in-ok-unit.ensures in
-    let room = c.in-ok-room.ensures in
-    let risen = c.in-ok-tolerance.ensures in
+    let unit = c.in_ok-unit.ensures in
+    let room = c.in_ok-room.ensures in
+    let risen = c.in_ok-tolerance.ensures in
     let none = neither_refuses _ _ unit.0 (neither_refuses _ _ room.0 risen.0) in
     let pushed = c.push.ensures ∙ ap (λ u. units_of self.register ++ u ∷ []) unit.1 in
     record {

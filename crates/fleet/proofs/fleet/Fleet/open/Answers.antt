@@ -7,9 +7,9 @@ use Rattle.fleet.proofs.Listing.{total_none}
 use Rattle.fleet.proofs.Opening.{open_falling, open_zeros}
 use Rattle.fleet.proofs.fleet.Fleet.open.Goals as goal
 
-pub invariant-of-result : goal.invariant-of-result
-invariant-of-result c =
+pub invariant_of-result : goal.invariant_of-result
+invariant_of-result c =
     let none = ap greatest_outage c.empty.ensures ∙ total_none Outage in
-    let open' = c.open-table.ensures in
+    let open' = c.open_table.ensures in
     let zeros = subst (λ m. Zeros m open_table) (sym none) open_zeros in
     (ap length open', (ap (λ t. get_or t 0 0) open', (subst Falling (sym open') open_falling, (subst (Zeros _) (sym open') zeros, (omega arith, tt)))))

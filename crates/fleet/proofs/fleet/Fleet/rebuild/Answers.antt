@@ -6,8 +6,8 @@ use Rattle.fleet.proofs.Registered.{held}
 use Rattle.fleet.proofs.Building.{service_few}
 use Rattle.fleet.proofs.fleet.Fleet.rebuild.Goals as goal
 
-pub invariant-of-self : goal.invariant-of-self
-invariant-of-self g c =
+pub invariant_of-self : goal.invariant_of-self
+invariant_of-self g c =
     let register = c.args.self.now.register in
     let told = c.build-count.ensures in
     let places : length c.build-count.new.table ≡ 1001 = search rules in

@@ -15,13 +15,13 @@ standing-requires c = (found c.args.identity (units_of c.args.self.now.register)
 pub strike-requires : goal.strike-requires
 strike-requires c = omega (arith, (found c.args.identity (units_of c.args.self.now.register) c.in-Some.place (sym c.in-Some.ensures)).0)
 
-pub invariant-of-self : goal.invariant-of-self
-invariant-of-self c =
+pub invariant_of-self : goal.invariant_of-self
+invariant_of-self c =
     let self = c.args.self.now in
     let here = found c.args.identity (units_of self.register) c.in-Some.place (sym c.in-Some.ensures) in
-    let out = accepted _ Standing c.in-ok-standing.ensures.0 in
+    let out = accepted _ Standing c.in_ok-standing.ensures.0 in
     let same = ap greatest_outage c.strike.ensures ∙ outage_struck (units_of self.register) c.in-Some.place here.0 out in
     (self.places, (self.certain, (self.falling, (subst (λ m. Zeros m self.table) (sym same) self.zeros, (self.held, tt)))))
 
-pub overflow-cast-result : goal.overflow-cast-result
-overflow-cast-result c = record { fits = omega (arith, c.len.ensures, held c.strike.new.self) }
+pub overflow_cast-result : goal.overflow_cast-result
+overflow_cast-result c = record { fits = omega (arith, c.len.ensures, held c.strike.new.self) }

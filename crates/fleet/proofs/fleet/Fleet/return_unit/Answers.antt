@@ -22,26 +22,26 @@ add-requires g c =
     let units = units_of self.register in
     let inside = (found c.args.identity units c.in-Some.place (sym c.in-Some.ensures)).0 in
     let lawful = lawful_at units c.in-Some.place inside self.register.lawful in
-    let states = c.states.ensures ∙ ap (λ u. u.states) c.in-ok-unit.ensures.1 in
+    let states = c.states.ensures ∙ ap (λ u. u.states) c.in_ok-unit.ensures.1 in
     record { shares = ap weights states ∙ (ruled _ _ lawful).shares; certain = self.certain; falling = self.falling }
 
-pub set-serving-requires : goal.set-serving-requires
-set-serving-requires g c = omega (arith, (found c.args.identity (units_of c.args.self.now.register) c.in-Some.place (sym c.in-Some.ensures)).0)
+pub set_serving-requires : goal.set_serving-requires
+set_serving-requires g c = omega (arith, (found c.args.identity (units_of c.args.self.now.register) c.in-Some.place (sym c.in-Some.ensures)).0)
 
-pub invariant-of-self : goal.invariant-of-self
-invariant-of-self g c =
+pub invariant_of-self : goal.invariant_of-self
+invariant_of-self g c =
     let self = c.args.self.now in
     let units = units_of self.register in
     let told = c.add.ensures in
     let inside = (found c.args.identity units c.in-Some.place (sym c.in-Some.ensures)).0 in
     let lawful = lawful_at units c.in-Some.place inside self.register.lawful in
-    let stands = c.in-ok-unit.ensures in
+    let stands = c.in_ok-unit.ensures in
     let states = c.states.ensures ∙ ap (λ u. u.states) stands.1 in
     let last = outage_of_last (unit_at c.in-Some.place units).states in
     let outages = subst (Outages last) (sym states) (ruled _ _ lawful).outages in
     let out = accepted _ Standing stands.0 in
-    let most = ap greatest_outage c.set-serving.ensures ∙ outage_returned c.in-Some.place units inside out in
-    let risen = c.in-ok-tolerance.ensures in (
+    let most = ap greatest_outage c.set_serving.ensures ∙ outage_returned c.in-Some.place units inside out in
+    let risen = c.in_ok-tolerance.ensures in (
       ap length told.entries ∙ length_added _ _ self.table ∙ self.places,
       (
         told.certain,

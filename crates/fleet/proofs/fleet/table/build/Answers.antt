@@ -7,22 +7,22 @@ use Rattle.fleet.proofs.fleet.table.build.Goals as goal
 pub loop-unit-init : goal.loop-unit-init
 loop-unit-init g c = built_none _ c.args.table.now c.requires.open
 
-pub add-if-serving-count-requires : goal.add-if-serving-count-requires
-add-if-serving-count-requires g c = record {
+pub add_if_serving-count-requires : goal.add_if_serving-count-requires
+add_if_serving-count-requires g c = record {
   lawful = lawful_record c.args.units.now c.loop-unit.unit-index _ c.loop-unit-test.true c.requires.lawful;
   certain = c.loop-unit.invariant.certain;
   falling = c.loop-unit.invariant.falling;
 }
 
-pub overflow-add-count : goal.overflow-add-count
-overflow-add-count g c =
+pub overflow_add-count : goal.overflow_add-count
+overflow_add-count g c =
     let few = built_few _ c.args.units.now c.loop-unit.unit-index _ c.loop-unit.count c.loop-unit.invariant in
-    let one = subst (λ n. n ≤ 1) (sym c.add-if-serving-count.ensures.count) (one_most _) in
+    let one = subst (λ n. n ≤ 1) (sym c.add_if_serving-count.ensures.count) (one_most _) in
     omega (arith, few, one, c.requires.few)
 
 pub loop-unit-preserved : goal.loop-unit-preserved
 loop-unit-preserved g c =
-    let told = c.add-if-serving-count.ensures in
+    let told = c.add_if_serving-count.ensures in
     built_more _ c.args.units.now c.loop-unit.unit-index _ c.loop-unit.table _ c.loop-unit.count _ c.loop-unit-test.true c.loop-unit.invariant told.entries told.certain told.falling told.zeros told.count
 
 pub returns : goal.returns

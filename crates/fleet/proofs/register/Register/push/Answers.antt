@@ -15,8 +15,8 @@ room self free =
 pub bounds-self-at : goal.bounds-self-at
 bounds-self-at c = (room c.args.self.now c.requires.room).0
 
-pub invariant-of-self : goal.invariant-of-self
-invariant-of-self c =
+pub invariant_of-self : goal.invariant_of-self
+invariant_of-self c =
     let self = c.args.self.now in
     let free = room self c.requires.room in
     let pushed = listed_push self.units self.len c.args.unit free.1 in (

@@ -5,14 +5,14 @@ use Rattle.fleet.proofs.Registered.{inside}
 use Rattle.fleet.proofs.Standings.{listed_standing, capacity_standing, lawful_standing}
 use Rattle.fleet.proofs.register.Register.set_serving.Goals as goal
 
-pub offset-bounds-self-place : goal.offset-bounds-self-place
-offset-bounds-self-place c = omega (arith, inside c.args.self.now c.args.place c.requires)
+pub offset_bounds-self-place : goal.offset_bounds-self-place
+offset_bounds-self-place c = omega (arith, inside c.args.self.now c.args.place c.requires)
 
 pub bounds-self-place : goal.bounds-self-place
 bounds-self-place c = omega (arith, inside c.args.self.now c.args.place c.requires)
 
-pub invariant-of-self : goal.invariant-of-self
-invariant-of-self c =
+pub invariant_of-self : goal.invariant_of-self
+invariant_of-self c =
     let self = c.args.self.now in
     let changed = listed_standing self.units self.len c.args.place c.args.serving _ (omega (arith, self.places, self.few)) c.requires in (
       length-set self.units _ _ ∙ self.places,

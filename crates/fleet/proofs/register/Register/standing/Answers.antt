@@ -6,8 +6,8 @@ use Rattle.fleet.proofs.Registered.{inside}
 use Rattle.fleet.proofs.Standings.{stands_otherwise, stands_so}
 use Rattle.fleet.proofs.register.Register.standing.Goals as goal
 
-pub offset-bounds-self-place : goal.offset-bounds-self-place
-offset-bounds-self-place c = omega (arith, inside c.args.self.now c.args.place c.requires)
+pub offset_bounds-self-place : goal.offset_bounds-self-place
+offset_bounds-self-place c = omega (arith, inside c.args.self.now c.args.place c.requires)
 
 pub bounds-self-place : goal.bounds-self-place
 bounds-self-place c = inside c.args.self.now c.args.place c.requires

@@ -7,21 +7,21 @@ use Rattle.fleet.proofs.Striking.{listed_struck, lawful_struck, total_struck}
 use Rattle.fleet.proofs.Registered.{inside}
 use Rattle.fleet.proofs.register.Register.strike.Goals as goal
 
-pub overflow-add-next : goal.overflow-add-next
-overflow-add-next c = omega (arith, inside c.args.self.now c.args.place c.requires)
+pub overflow_add-next : goal.overflow_add-next
+overflow_add-next c = omega (arith, inside c.args.self.now c.args.place c.requires)
 
-pub copy-within-requires : goal.copy-within-requires
-copy-within-requires c =
+pub copy_within-requires : goal.copy_within-requires
+copy_within-requires c =
     let self = c.args.self.now in
     let room : self.len ≤ length self.units = omega (arith, self.places, self.few) in
     let count = length_listed self.units self.len room in
-    record { start-le-end = omega (arith, count, c.requires); in_bounds = room; dest-in-bounds = omega (arith, count, c.requires, room); not-exhausted = tt }
+    record { start-le-end = omega (arith, count, c.requires); in_bounds = room; dest-in-bounds = omega (arith, count, c.requires, room); not_exhausted = tt }
 
-pub invariant-of-self : goal.invariant-of-self
-invariant-of-self c =
+pub invariant_of-self : goal.invariant_of-self
+invariant_of-self c =
     let self = c.args.self.now in
-    let struck = listed_struck self.units c.copy-within.new.self self.len c.args.place (omega (arith, self.places, self.few)) c.requires c.copy-within.ensures.after in (
-      c.copy-within.ensures.len ∙ self.places,
+    let struck = listed_struck self.units c.copy_within.new.self self.len c.args.place (omega (arith, self.places, self.few)) c.requires c.copy_within.ensures.after in (
+      c.copy_within.ensures.len ∙ self.places,
       (
         omega (arith, self.few),
         (
@@ -34,4 +34,4 @@ invariant-of-self c =
 pub returns : goal.returns
 returns c =
     let self = c.args.self.now in
-    listed_struck self.units c.copy-within.new.self self.len c.args.place (omega (arith, self.places, self.few)) c.requires c.copy-within.ensures.after
+    listed_struck self.units c.copy_within.new.self self.len c.args.place (omega (arith, self.places, self.few)) c.requires c.copy_within.ensures.after

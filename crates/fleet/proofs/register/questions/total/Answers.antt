@@ -13,8 +13,8 @@ next c =
 pub loop-unit-init : goal.loop-unit-init
 loop-unit-init c = sym (total_none c.args.which)
 
-pub overflow-add-sum : goal.overflow-add-sum
-overflow-add-sum c = omega (arith, next c, total_take c.args.which (map unit_of c.args.units.now) (c.loop-unit.unit-index + 1))
+pub overflow_add-sum : goal.overflow_add-sum
+overflow_add-sum c = omega (arith, next c, total_take c.args.which (map unit_of c.args.units.now) (c.loop-unit.unit-index + 1))
 
 pub loop-unit-preserved : goal.loop-unit-preserved
 loop-unit-preserved c = next c

@@ -7,30 +7,30 @@ use Rattle.indices.proofs.sheet.Rows.next_row.Goals as goal
 use Rattle.indices.proofs.sheet.Rows.next_row.Goals.{In-Some}
 
 -- what `read_values` said of the line
-read : (c : In-Some) → ValuesRead c.args.self.now.reader c.in-Some.values c.read-values.new.reader
-read c = subst (λ v. LineRead c.args.self.now.reader v c.read-values.new.reader) c.in-Some.is c.in-ok-values.ensures
+read : (c : In-Some) → ValuesRead c.args.self.now.reader c.in-Some.values c.read_values.new.reader
+read c = subst (λ v. LineRead c.args.self.now.reader v c.read_values.new.reader) c.in-Some.is c.in_ok-values.ensures
 
 after : In-Some → Rows
-after c = record { reader = c.read-values.new.reader; columns = c.args.self.now.columns }
+after c = record { reader = c.read_values.new.reader; columns = c.args.self.now.columns }
 
-pub returns-in-err-values : goal.returns-in-err-values
-returns-in-err-values c =
-    let p = err_from_is_err_and c.from-residual.result c.from-residual.ensures.1 in
-    rw (p.1, p.2) (remaining_unread c.args.self.now c.requires.start ∙ c.in-err-values.ensures c.args.self.now.columns)
+pub returns-in_err-values : goal.returns-in_err-values
+returns-in_err-values c =
+    let p = err_from_is_err_and c.from_residual.result c.from_residual.ensures.1 in
+    rw (p.1, p.2) (remaining_unread c.args.self.now c.requires.start ∙ c.in_err-values.ensures c.args.self.now.columns)
 
 pub returns-then-values-ne-COLUMNS : goal.returns-then-values-ne-COLUMNS
 unfolding after
 returns-then-values-ne-COLUMNS c =
     let d = (goal.at.returns-then-values-ne-COLUMNS c).In-Some in not_five c.args.self.now (after d) _ c.requires refl (read d) c.if-values-ne-COLUMNS.true
 
-pub returns-then-not-rates-fit : goal.returns-then-not-rates-fit
+pub returns-then-not-rates_fit : goal.returns-then-not-rates_fit
 unfolding after
-returns-then-not-rates-fit c =
-    let d = (goal.at.returns-then-not-rates-fit c).In-Some in
-    not_rates c.args.self.now (after d) _ c.requires refl (read d) c.if-values-ne-COLUMNS.false _ c.new-row.ensures (sym c.if-not-rates-fit.ensures)
+returns-then-not-rates_fit c =
+    let d = (goal.at.returns-then-not-rates_fit c).In-Some in
+    not_rates c.args.self.now (after d) _ c.requires refl (read d) c.if-values-ne-COLUMNS.false _ c.new-row.ensures (sym c.if-not-rates_fit.ensures)
 
 pub returns : goal.returns
 unfolding after
 returns c =
     let d = (goal.at.returns c).In-Some in
-    row_read c.args.self.now (after d) _ c.requires refl (read d) c.if-values-ne-COLUMNS.false _ c.new-row.ensures (sym c.if-not-rates-fit.ensures)
+    row_read c.args.self.now (after d) _ c.requires refl (read d) c.if-values-ne-COLUMNS.false _ c.new-row.ensures (sym c.if-not-rates_fit.ensures)

@@ -15,4 +15,4 @@ returns c =
     let line = c.args.self.now in
     let days = length_line line.days line.high line.low in
     let here = line_at line.days line.high line.low c.args.day (omega arith) in
-    c.min-2.ensures ∙ ap (λ load. min load above_limit) (c.load-of.ensures ∙ sym here) ∙ sym (as_loads_in (line_loads line.days line.high line.low) c.args.day (omega arith))
+    c.min-2.ensures ∙ ap (λ load. min load above_limit) (c.load_of.ensures ∙ sym here) ∙ sym (as_loads_in (line_loads line.days line.high line.low) c.args.day (omega arith))
