@@ -1,4 +1,4 @@
-use Rattle.std.proofs.Common.{◌+◌, [], ◌∷◌, ◌++◌, length, sym, ap, ◌∙◌, subst, arith}
+use Rattle.std.proofs.Common.{[], ◌∷◌, ◌++◌, length, sym, ap, ◌∙◌, subst, arith}
 use Rattle.rounding.specs.Table.{Zeros}
 use Rattle.fleet.specs.States.{outage_of_last}
 use Rattle.fleet.specs.Units.{greatest_outage}
@@ -24,19 +24,7 @@ invariant_of-self g c =
     let unit = c.in_ok-unit.ensures.1 in
     let pushed = c.push.ensures ∙ ap (λ u. units_of self.register ++ u ∷ []) unit in
     let most = added_outage (units_of self.register) (units_of c.push.new.self) c.args.identity c.args.capacity states pushed in
-    let risen = c.in_ok-tolerance.ensures in (
-      ap length told.entries ∙ length_added _ states self.table ∙ self.places,
-      (
-        told.certain,
-        (
-          told.falling,
-          (
-            subst (λ m. Zeros m c.add.new.entries) (sym most) (told.zeros (greatest_outage (units_of self.register)) (outage_of_last states) last self.zeros),
-            (omega (arith, risen.1, accepted_tolerance _ risen.0), tt),
-          ),
-        ),
-      ),
-    )
+    let risen = c.in_ok-tolerance.ensures in record { places = ap length told.entries ∙ length_added _ states self.table ∙ self.places; certain = told.certain; falling = told.falling; zeros = subst (λ m. Zeros m c.add.new.entries) (sym most) (told.zeros (greatest_outage (units_of self.register)) (outage_of_last states) last self.zeros); held = omega (arith, risen.1, accepted_tolerance _ risen.0) }
 
 pub returns : goal.returns
 returns g c =

@@ -12,4 +12,4 @@ invariant_of-result c =
     let none = ap greatest_outage c.empty.ensures ∙ total_none Outage in
     let open' = c.open_table.ensures in
     let zeros = subst (λ m. Zeros m open_table) (sym none) open_zeros in
-    (ap length open', (ap (λ t. get_or t 0 0) open', (subst Falling (sym open') open_falling, (subst (Zeros _) (sym open') zeros, (omega arith, tt)))))
+    record { places = ap length open'; certain = ap (λ t. get_or t 0 0) open'; falling = subst Falling (sym open') open_falling; zeros = subst (Zeros _) (sym open') zeros; held = omega arith }

@@ -15,4 +15,4 @@ invariant_of-self g c =
     let count = told.count ∙ ap (λ records. length (in_service (map unit_of records))) c.registered.ensures in
     let few = service_few (units_of register) in
     let most = held register in
-    (places, (told.certain, (told.falling, (zeros, (omega (arith, count, few, most), tt)))))
+    record { places = places; certain = told.certain; falling = told.falling; zeros = zeros; held = omega (arith, count, few, most) }

@@ -21,7 +21,7 @@ invariant_of-self c =
     let here = found c.args.identity (units_of self.register) c.in-Some.place (sym c.in-Some.ensures) in
     let out = accepted _ Standing c.in_ok-standing.ensures.0 in
     let same = ap greatest_outage c.strike.ensures ∙ outage_struck (units_of self.register) c.in-Some.place here.0 out in
-    (self.places, (self.certain, (self.falling, (subst (λ m. Zeros m self.table) (sym same) self.zeros, (self.held, tt)))))
+    record { places = self.places; certain = self.certain; falling = self.falling; zeros = subst (λ m. Zeros m self.table) (sym same) self.zeros; held = self.held }
 
 pub overflow_cast-result : goal.overflow_cast-result
 overflow_cast-result c = record { fits = omega (arith, c.len.ensures, held c.strike.new.self) }

@@ -41,16 +41,4 @@ invariant_of-self g c =
     let outages = subst (Outages last) (sym states) (ruled _ _ lawful).outages in
     let out = accepted _ Standing stands.0 in
     let most = ap greatest_outage c.set_serving.ensures ∙ outage_returned c.in-Some.place units inside out in
-    let risen = c.in_ok-tolerance.ensures in (
-      ap length told.entries ∙ length_added _ _ self.table ∙ self.places,
-      (
-        told.certain,
-        (
-          told.falling,
-          (
-            subst (λ m. Zeros m c.add.new.entries) (sym most) (told.zeros (greatest_outage units) last outages self.zeros),
-            (omega (arith, risen.1, accepted_tolerance _ risen.0), tt),
-          ),
-        ),
-      ),
-    )
+    let risen = c.in_ok-tolerance.ensures in record { places = ap length told.entries ∙ length_added _ _ self.table ∙ self.places; certain = told.certain; falling = told.falling; zeros = subst (λ m. Zeros m c.add.new.entries) (sym most) (told.zeros (greatest_outage units) last outages self.zeros); held = omega (arith, risen.1, accepted_tolerance _ risen.0) }

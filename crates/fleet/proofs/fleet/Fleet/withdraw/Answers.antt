@@ -44,16 +44,4 @@ pub invariant_of-self : goal.invariant_of-self
 invariant_of-self g c =
     let self = c.args.self.now in
     let told = c.remove.ensures in
-    let taken = c.in_ok-tolerance.ensures in (
-      ap length told.entries ∙ length_without _ _ _ self.table ∙ self.places,
-      (
-        told.certain,
-        (
-          told.falling,
-          (
-            subst (λ m. Zeros m c.remove.new.entries) c.total-greatest.ensures.value told.zeros,
-            (omega (arith, taken.1, (accepted_removal c.first_weight.result self.tolerance taken.0).1), tt),
-          ),
-        ),
-      ),
-    )
+    let taken = c.in_ok-tolerance.ensures in record { places = ap length told.entries ∙ length_without _ _ _ self.table ∙ self.places; certain = told.certain; falling = told.falling; zeros = subst (λ m. Zeros m c.remove.new.entries) c.total-greatest.ensures.value told.zeros; held = omega (arith, taken.1, (accepted_removal c.first_weight.result self.tolerance taken.0).1) }

@@ -19,16 +19,7 @@ pub invariant_of-self : goal.invariant_of-self
 invariant_of-self c =
     let self = c.args.self.now in
     let free = room self c.requires.room in
-    let pushed = listed_push self.units self.len c.args.unit free.1 in (
-      length-set self.units self.len c.args.unit ∙ self.places,
-      (
-        omega (arith, free.0),
-        (
-          ap all_lawful pushed ∙ lawful_push (units_of self) (unit_of c.args.unit) self.lawful c.requires.lawful,
-          (omega (arith, ap registered_capacity pushed, total_push Registered (units_of self) (unit_of c.args.unit), c.requires.capacity), tt),
-        ),
-      ),
-    )
+    let pushed = listed_push self.units self.len c.args.unit free.1 in record { places = length-set self.units self.len c.args.unit ∙ self.places; few = omega (arith, free.0); lawful = ap all_lawful pushed ∙ lawful_push (units_of self) (unit_of c.args.unit) self.lawful c.requires.lawful; capacity = omega (arith, ap registered_capacity pushed, total_push Registered (units_of self) (unit_of c.args.unit), c.requires.capacity) }
 
 pub returns : goal.returns
 returns c =

@@ -14,16 +14,7 @@ bounds-self-place c = omega (arith, inside c.args.self.now c.args.place c.requir
 pub invariant_of-self : goal.invariant_of-self
 invariant_of-self c =
     let self = c.args.self.now in
-    let changed = listed_standing self.units self.len c.args.place c.args.serving _ (omega (arith, self.places, self.few)) c.requires in (
-      length-set self.units _ _ ∙ self.places,
-      (
-        self.few,
-        (
-          ap all_lawful changed ∙ lawful_standing c.args.serving c.args.place (units_of self) c.requires self.lawful,
-          (omega (arith, ap registered_capacity changed, capacity_standing c.args.serving c.args.place (units_of self) c.requires, self.capacity), tt),
-        ),
-      ),
-    )
+    let changed = listed_standing self.units self.len c.args.place c.args.serving _ (omega (arith, self.places, self.few)) c.requires in record { places = length-set self.units _ _ ∙ self.places; few = self.few; lawful = ap all_lawful changed ∙ lawful_standing c.args.serving c.args.place (units_of self) c.requires self.lawful; capacity = omega (arith, ap registered_capacity changed, capacity_standing c.args.serving c.args.place (units_of self) c.requires, self.capacity) }
 
 pub returns : goal.returns
 returns c =

@@ -15,21 +15,12 @@ copy_within-requires c =
     let self = c.args.self.now in
     let room : self.len ≤ length self.units = omega (arith, self.places, self.few) in
     let count = length_listed self.units self.len room in
-    record { start-le-end = omega (arith, count, c.requires); in_bounds = room; dest-in-bounds = omega (arith, count, c.requires, room); not_exhausted = tt }
+    record { start_le_end = omega (arith, count, c.requires); in_bounds = room; dest_in_bounds = omega (arith, count, c.requires, room); not_exhausted = tt }
 
 pub invariant_of-self : goal.invariant_of-self
 invariant_of-self c =
     let self = c.args.self.now in
-    let struck = listed_struck self.units c.copy_within.new.self self.len c.args.place (omega (arith, self.places, self.few)) c.requires c.copy_within.ensures.after in (
-      c.copy_within.ensures.len ∙ self.places,
-      (
-        omega (arith, self.few),
-        (
-          ap all_lawful struck ∙ lawful_struck (units_of self) c.args.place self.lawful,
-          (omega (arith, ap registered_capacity struck, total_struck Registered (units_of self) c.args.place c.requires, self.capacity), tt),
-        ),
-      ),
-    )
+    let struck = listed_struck self.units c.copy_within.new.self self.len c.args.place (omega (arith, self.places, self.few)) c.requires c.copy_within.ensures.after in record { places = c.copy_within.ensures.len ∙ self.places; few = omega (arith, self.few); lawful = ap all_lawful struck ∙ lawful_struck (units_of self) c.args.place self.lawful; capacity = omega (arith, ap registered_capacity struck, total_struck Registered (units_of self) c.args.place c.requires, self.capacity) }
 
 pub returns : goal.returns
 returns c =
