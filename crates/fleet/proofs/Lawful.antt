@@ -1,6 +1,6 @@
 -- The rules on states, taken apart as first and rest. Assumes nothing.
 use Rattle.std.proofs.Common.{◌≡◌, ℕ, suc, ◌+◌, ◌-◌, ◌<◌, ◌≤◌, Bool, true, false, ◌&&◌, eqb, ltb, leb, List, [], ◌∷◌, length, get_or, take, drop, sym, refl, ap, le_refl, arith}
-use Rattle.std.specs.List.{AllByRecursion as All}
+use Rattle.std.specs.List.{AllByRecursion}
 use Rattle.std.proofs.ByRecursion.{All-weaker}
 use Rattle.std.proofs.lemmas.List.{at_drop_more, at_drop_all, take_rest}
 use Rattle.std.proofs.lemmas.List.Sums.{sum_by-cons}
@@ -66,7 +66,7 @@ later_last capacity s (t ∷ states) h low =
     ((omega arith, rest.0), rest.1)
 
 -- each later state has more out than the one before the first of them
-later_above : (capacity before : ℕ) (states : List State) → later capacity before states ≡ true → All (λ s. before < s.outage) states
+later_above : (capacity before : ℕ) (states : List State) → later capacity before states ≡ true → AllByRecursion (λ s. before < s.outage) states
 unfolding later
 later_above capacity before [] h = tt
 later_above capacity before (s ∷ states) h =

@@ -3,7 +3,7 @@ ghost use Rattle.std.specs.Prelude.{◌≡◌, ◌≤◌, length, take, if◌the
 ghost use Rattle.rounding.specs.Removing.{first_weight};
 ghost use Rattle.fleet.specs.States.{outage_of_last};
 ghost use Rattle.fleet.specs.Units.{unit_of, new_unit, share};
-ghost use Rattle.fleet.specs.LookUp.{plain as plain_of_lem};
+ghost use Rattle.fleet.specs.LookUp.{plain as plain_unit};
 ghost use Rattle.fleet.specs.Refusals.{Outcome};
 ghost use Rattle.fleet.specs.Adding.{unit_refusal};
 
@@ -125,7 +125,7 @@ impl UnitRecord {
 
     // The capacity and the standing, 1 in service and 0 out.
     pub(crate) fn plain(&self) -> (u32, u32)
-        ensures { result ≡ plain_of_lem (unit_of self.now) }
+        ensures { result ≡ plain_unit (unit_of self.now) }
     {
         (self.capacity, self.while_serving(1))
     }

@@ -1,6 +1,6 @@
 // Why a call is turned down, of a fleet or of the indices above it. A refused call alters nothing.
 ghost use Rattle.std.specs.Prelude.{◌≡◌};
-ghost use Rattle.fleet.specs.Refusals.{number as number_of_lem};
+ghost use Rattle.fleet.specs.Refusals.{number as number_of_refusal};
 
 #[derive(Clone, Copy, PartialEq, Eq, Debug)]
 pub enum Refusal {
@@ -36,7 +36,7 @@ pub enum Refusal {
 
 impl Refusal {
     pub fn number(&self) -> u8
-        ensures { result ≡ number_of_lem self.now }
+        ensures { result ≡ number_of_refusal self.now }
     {
         match self {
             Refusal::Identity => 1,

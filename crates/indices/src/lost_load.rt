@@ -10,7 +10,7 @@ use fleet::{Fleet, Refusal};
 
 // The load of a day, unless it is above the limit.
 fn load_on<L: LoadModel>(model: &L, day: u32) -> Result<u32, Refusal>
-    ensures { Outcome (load_refusal (slice_index (loads model.now) day)) result (λ load. load ≡ slice_index (loads model.now) day) }
+    ensures { Outcome (load_refusal (slice_index (L.loads model.now) day)) result (λ load. load ≡ slice_index (L.loads model.now) day) }
 {
     let load = model.load(day);
     if load > LOAD_LIMIT {
@@ -51,7 +51,7 @@ fn loss(fleet: &Fleet, capacity: u32, load: u32) -> (u64, u32)
 // The sum over the days of how likely it is that the day's load is lost, in parts, together with
 // the bound of its error.
 pub fn days<L: LoadModel>(fleet: &Fleet, model: &L) -> Result<(u64, u64), Refusal>
-    ensures { Outcome (limit_refusal (loads model.now)) result (λ answer. Days (ledger_of fleet.now) (loads model.now) answer) }
+    ensures { Outcome (limit_refusal (L.loads model.now)) result (λ answer. Days (ledger_of fleet.now) (L.loads model.now) answer) }
 {
     let capacity = fleet.capacity();
     let mut sum: u64 = 0;

@@ -1,6 +1,6 @@
 -- What adding a unit keeps of a table, from the laws of its rule alone. Assumes nothing.
 use Rattle.std.proofs.Common.{◌≡◌, ℕ, zero, suc, ◌+◌, ◌-◌, ◌*◌, ◌<◌, ◌≤◌, ltb, ◌≢◌, List, [], ◌∷◌, length, get_or, set, sym, refl, ap, ◌∙◌, ⊎_elim, le_refl, le_of_lt, mul-le-mul_right, add-mul, mul-le-mul_left, add-one, arith, length-set, get_or-set_other, get_or-set_same}
-use Rattle.std.specs.List.{AllByRecursion as All}
+use Rattle.std.specs.List.{AllByRecursion}
 use Rattle.std.proofs.lemmas.List.FromFn.{fill_by_all}
 use Rattle.std.proofs.lemmas.List.{get_or_past}
 use Rattle.std.proofs.lemmas.Bool.{cases_lt, cases_eq, cond-true, cond-false, lt-ltb, le-ltb}
@@ -27,7 +27,7 @@ before_agrees a b k outage same =
     (cases_lt k outage)
 
 -- the amount at k needs only entries that lie at least the least outage before k
-pub amount_agrees : (least : ℕ) (states : List State) → All (λ s. least ≤ s.outage) states → (a b : List ℕ) (k : ℕ) → ((j : ℕ) → j + least ≤ k → get_or a j 0 ≡ get_or b j 0) → amount states a k ≡ amount states b k
+pub amount_agrees : (least : ℕ) (states : List State) → AllByRecursion (λ s. least ≤ s.outage) states → (a b : List ℕ) (k : ℕ) → ((j : ℕ) → j + least ≤ k → get_or a j 0 ≡ get_or b j 0) → amount states a k ≡ amount states b k
 amount_agrees least [] low a b k same = amount_none a k ∙ sym (amount_none b k)
 amount_agrees least (s ∷ states) low a b k same =
     let far = low.0 in
@@ -36,20 +36,20 @@ amount_agrees least (s ∷ states) low a b k same =
     rw (amount_cons s states a k, amount_cons s states b k, here, rest)
 
 -- what holds of every state holds of all in a list
-pub all_of : {P : State → Type 0} → ((s : State) → P s) → (states : List State) → All P states
+pub all_of : {P : State → Type 0} → ((s : State) → P s) → (states : List State) → AllByRecursion P states
 all_of h [] = tt
 all_of h (s ∷ states) = (h s, all_of h states)
 
 -- a mixture of entries is as near to the mixture of a sequence as each entry is to its term
 module _ (entries : List ℕ) (t scale : ℕ) (x : ℕ → ℕ) (k : ℕ) where
-  pub amount_over : (states : List State) → All (λ s. entry_before entries k s.outage * scale ≤ x (k - s.outage) + t * scale) states → amount states entries k * scale ≤ mixture states x k + weights states * (t * scale)
+  pub amount_over : (states : List State) → AllByRecursion (λ s. entry_before entries k s.outage * scale ≤ x (k - s.outage) + t * scale) states → amount states entries k * scale ≤ mixture states x k + weights states * (t * scale)
   amount_over [] near = rw (amount_none, mixture_none, weights_none) (omega arith)
   amount_over (s ∷ states) near =
       let rest = amount_over states near.1 in
       let here = mul-le-mul_left s.weight near.0 in
       rw (amount_cons, mixture_cons, weights_cons) (omega arith)
 
-  pub amount_under : (states : List State) → All (λ s. x (k - s.outage) ≤ entry_before entries k s.outage * scale + t * scale) states → mixture states x k ≤ amount states entries k * scale + weights states * (t * scale)
+  pub amount_under : (states : List State) → AllByRecursion (λ s. x (k - s.outage) ≤ entry_before entries k s.outage * scale + t * scale) states → mixture states x k ≤ amount states entries k * scale + weights states * (t * scale)
   amount_under [] near = rw (amount_none, mixture_none, weights_none) (omega arith)
   amount_under (s ∷ states) near =
       let rest = amount_under states near.1 in

@@ -1,6 +1,6 @@
 -- What taking a unit out keeps of a table, from the laws of its rule alone. Assumes nothing.
 use Rattle.std.proofs.Common.{◌≡◌, ℕ, zero, suc, ◌+◌, ◌-◌, ◌*◌, ◌<◌, ◌≤◌, min, cond, ltb, ◌≢◌, List, [], ◌∷◌, ◌++◌, length, get_or, take, drop, set, sym, refl, ap, ◌∙◌, subst, ⊎_elim, le_refl, mul-le-mul_right, add-mul, add-one, arith, length-set, get_or-set_other, get_or-set_same}
-use Rattle.std.specs.List.{AllByRecursion as All}
+use Rattle.std.specs.List.{AllByRecursion}
 use Rattle.std.proofs.ByRecursion.{All-weaker}
 use Rattle.std.proofs.lemmas.List.{get_or_past, get_or-take, take_more, take_all, take_rest}
 use Rattle.std.proofs.lemmas.Bool.{cases_lt, cases_eq, cond-true, cond-false, cond_both, lt-ltb, le-ltb}
@@ -27,7 +27,7 @@ states_apart (first ∷ rest) d some = ap (λ r. first ∷ r) (sym (take_rest (f
 pub record Asked_of (first : State) (rest : List State) : Type 0 where
   pub shares : first.weight + weights rest ≡ million
   pub starts : first.outage ≡ 0
-  pub later : All (λ s. 1 ≤ s.outage) rest
+  pub later : AllByRecursion (λ s. 1 ≤ s.outage) rest
   pub high : 500000 < first.weight
 
 pub asked_of : (states : List State) (first : State) (rest : List State) → states ≡ first ∷ rest → weights states ≡ million → Starting states → 500000 < first_weight states → Asked_of first rest
@@ -56,7 +56,7 @@ pub record Removed (answer : ℕ → ℕ → ℕ) (first : State) (rest : List S
   pub places : length new ≡ length old
   pub entries : (k : ℕ) → k < length old → get_or new k 0 ≡ entry_without answer first rest greatest old new k
 
-module _ (answer : ℕ → ℕ → ℕ) (first : State) (rest : List State) (later : All (λ s. 1 ≤ s.outage) rest) (greatest : ℕ) where
+module _ (answer : ℕ → ℕ → ℕ) (first : State) (rest : List State) (later : AllByRecursion (λ s. 1 ≤ s.outage) rest) (greatest : ℕ) where
   -- an entry needs only new entries below its place
   without_agrees : (old a b : List ℕ) (k : ℕ) → ((j : ℕ) → j < k → get_or a j 0 ≡ get_or b j 0) → entry_without answer first rest greatest old a k ≡ entry_without answer first rest greatest old b k
   without_agrees old a b k same =
@@ -120,7 +120,7 @@ module _ (answer : ℕ → ℕ → ℕ) (first : State) (rest : List State) (lat
     past_zero k past = get_or_past new k 0 (omega (arith, made.places))
 
     -- the later states all read below place 0
-    amount_first : (states : List State) → All (λ s. 1 ≤ s.outage) states → amount states new 0 ≡ weights states * full
+    amount_first : (states : List State) → AllByRecursion (λ s. 1 ≤ s.outage) states → amount states new 0 ≡ weights states * full
     amount_first [] low = rw (amount_none, weights_none) refl
     amount_first (s ∷ states) low =
         let some = low.0 in

@@ -1,6 +1,6 @@
 -- What a unit's states make of a table, and of any sequence. Assumes nothing.
 use Rattle.std.specs.Prelude.{ℕ, ◌-◌, ◌*◌, ◌≤◌, List, sum_by}
-use Rattle.std.specs.List.{AllByRecursion as All}
+use Rattle.std.specs.List.{AllByRecursion}
 use Rattle.rounding.specs.Table.{entry_before}
 use Rattle.rounding.specs.declared.state.State.{State}
 
@@ -14,7 +14,7 @@ weights states = sum_by (λ s. s.weight) states
 
 -- no state has more than this out
 abbrev pub Outages : ℕ → List State → Type 0
-Outages most states = All (λ s. s.outage ≤ most) states
+Outages most states = AllByRecursion (λ s. s.outage ≤ most) states
 
 -- the sum of weight × entry at place k − outage, over the states
 unfoldable pub amount : List State → List ℕ → ℕ → ℕ

@@ -1,6 +1,6 @@
 -- The reverse of the recursion: a unit taken out of a table. Assumes nothing.
 use Rattle.std.specs.Prelude.{◌≡◌, ℕ, zero, suc, ◌+◌, ◌-◌, ◌*◌, ◌<◌, ◌≤◌, min, cond, List, [], ◌∷◌, ◌++◌, length, nat_lt, slice_index}
-use Rattle.std.specs.List.{AllByRecursion as All}
+use Rattle.std.specs.List.{AllByRecursion}
 use Rattle.rounding.specs.Table.{entry_before}
 use Rattle.rounding.specs.Mixture.{million, amount}
 use Rattle.rounding.specs.declared.state.State.{State}
@@ -8,7 +8,7 @@ use Rattle.rounding.specs.declared.state.State.{State}
 -- nothing is out in the first state, and something in each later one
 abbrev pub Starting : List State → Type 0
 Starting [] = ⊥
-Starting (first ∷ rest) = (first.outage ≡ 0) × All (λ s. 1 ≤ s.outage) rest
+Starting (first ∷ rest) = (first.outage ≡ 0) × AllByRecursion (λ s. 1 ≤ s.outage) rest
 
 -- the weight of the first state
 abbrev pub first_weight : List State → ℕ

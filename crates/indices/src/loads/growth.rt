@@ -31,7 +31,7 @@ fn grown(percent: u32, load: u32) -> u32
 impl<'a, L: LoadModel> Growth<'a, L> {
     // A model of the loads of the model below, each grown by the same percentage.
     pub fn new(below: &'a L, percent: u32) -> Result<Growth<'a, L>, Refusal>
-        ensures { Outcome (percent_refusal percent) result (λ model. growth_loads loads model ≡ grown_loads percent (loads below.now)) }
+        ensures { Outcome (percent_refusal percent) result (λ model. growth_loads L.loads model ≡ grown_loads percent (L.loads below.now)) }
     {
         if percent == 0 || percent > MOST_PERCENT {
             return Err(Refusal::Loads);

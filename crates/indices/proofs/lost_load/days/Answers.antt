@@ -1,4 +1,4 @@
-use Rattle.std.proofs.Common.{◌≡◌, ℕ, ◌+◌, ◌*◌, ◌<◌, ◌≤◌, length, get_or, take, sym, refl, ap, ◌∙◌, mul-le-mul_right, add-mul, zero-mul, arith, below_more}
+use Rattle.std.proofs.Common.{◌≡◌, ◌*◌, ◌<◌, ◌≤◌, length, get_or, sym, ap, ◌∙◌, mul-le-mul_right, add-mul, zero-mul, arith, below_more}
 use Rattle.std.proofs.lemmas.List.{take_all}
 use Rattle.std.proofs.lemmas.Result.{err_from_is_err_and}
 use Rattle.std.proofs.lemmas.Bool.{ltb-false}
@@ -7,7 +7,7 @@ use Rattle.fleet.specs.Fleets.{ledger_of}
 use Rattle.fleet.specs.declared.refusal.Refusal.TheVariants.{AboveLimit}
 use Rattle.fleet.proofs.Refusing.{accepted}
 use Rattle.indices.specs.Loads.{most_days, limit}
-use Rattle.indices.specs.Days.{loss, lost_days}
+use Rattle.indices.specs.Days.{lost_days}
 use Rattle.indices.proofs.Losing.{loss_le, lost_none, lost_more, limit_kept, limit_passed}
 use Rattle.indices.proofs.lost_load.days.Goals as goal
 

@@ -1,4 +1,4 @@
-use Rattle.std.proofs.Common.{◌≡◌, ℕ, ◌≤◌, min, List, sym, ap, ◌∙◌, arith}
+use Rattle.std.proofs.Common.{min, sym, ap, ◌∙◌, arith}
 use Rattle.indices.specs.Loads.{above_limit}
 use Rattle.indices.specs.StraightLine.{line_loads}
 use Rattle.indices.proofs.Loading.{length_line, line_at, as_loads_in, as_loads_out}
