@@ -95,7 +95,8 @@ fn growth_over_growth(rt: HostRuntime) -> Result<(), Fail> {
     let twice = Growth::new(&once, 110)?;
     check_loads(&rt, &twice, 2, &[(0, ABOVE_LIMIT), (1, 8), (2, 0)])?;
     let back = Growth::new(&twice, 50)?;
-    check_loads(&rt, &back, 2, &[(0, ABOVE_LIMIT), (1, 4)]).note("a marked load stays marked")
+    // a marked load stays marked
+    check_loads(&rt, &back, 2, &[(0, ABOVE_LIMIT), (1, 4)])
 }
 
 #[test]

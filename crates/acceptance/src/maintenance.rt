@@ -1,7 +1,7 @@
 // Units that go out for maintenance, come back and are retired.
 ghost use Rattle.std.specs.Prelude.{◌≤◌};
 
-use crate::cases::{FIVE, SURE, check_entries, check_two_units, one_step, two_units};
+use crate::cases::{FIVE, SURE, THREE, check_entries, check_two_units, one_step};
 use fleet::Fleet;
 use rounding::{Down, FULL, Nearest, Rounding, State, Up};
 use std::process::Abort;
@@ -9,7 +9,9 @@ use std::test::Fail;
 
 #[test]
 fn a_withdrawal_undoes_an_add(rt: HostRuntime) -> Result<(), Fail> {
-    let mut fleet = two_units(&rt)?;
+    let mut fleet = Fleet::open();
+    assert_eq!(rt; fleet.add(&Nearest, 1, 3, &THREE)?, 1);
+    assert_eq!(rt; fleet.add(&Nearest, 2, 3, &THREE)?, 2);
     assert_eq!(rt; fleet.add(&Nearest, 3, 5, &FIVE)?, 3);
     assert_eq!(rt; fleet.withdraw(&Nearest, 3)?, 5);
     check_two_units(&rt, &fleet, 5)?;

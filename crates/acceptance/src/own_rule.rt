@@ -1,9 +1,7 @@
 // A rule that is not among those delivered: it shows that a user can bring one.
 ghost use Rattle.rounding.specs.Rule.{divided};
 ghost use Rattle.std.specs.Prelude.{◌*◌, nat_lt};
-ghost use Rattle.std.proofs.Common.{arith};
-ghost use Rattle.std.proofs.lemmas.Bool.{ltb-true, lt-ltb};
-ghost use Rattle.rounding.specs.Division.{divided_close, divided_rising};
+ghost use Rattle.acceptance.specs.HalfDown.{half_down_close, half_down_rising};
 
 use fleet::Fleet;
 use rounding::{Rounding, State};
@@ -16,9 +14,9 @@ struct HalfDown;
 impl Rounding for HalfDown {
     ghost answer = { λ _. divided (λ remainder divisor. nat_lt divisor (2 * remainder)) };
 
-    ghost close = { λ rule. divided_close _ (λ r d h e. let over = ltb-true d (2 * r) e in omega arith) };
+    ghost close = { λ rule. half_down_close };
 
-    ghost rising = { λ rule. divided_rising _ (λ r s d h e. let over = ltb-true d (2 * r) e in lt-ltb d (2 * s) (omega arith)) };
+    ghost rising = { λ rule. half_down_rising };
 
     fn round(&self, amount: u64, divisor: u32) -> u64 {
         if divisor == 0 {

@@ -1,5 +1,5 @@
 // Tables that can be recomputed by hand.
-use crate::cases::{FIVE, check_entries, check_two_units, two_units};
+use crate::cases::{FIVE, THREE, check_entries, check_two_units};
 use fleet::Fleet;
 use rounding::{Down, FULL, Nearest, Rounding, State, Up};
 use std::process::Abort;
@@ -16,12 +16,17 @@ fn an_open_fleet_has_nothing_out(rt: HostRuntime) -> Result<(), Fail> {
 
 #[test]
 fn two_units_of_three(rt: HostRuntime) -> Result<(), Fail> {
-    check_two_units(&rt, &two_units(&rt)?, 2)
+    let mut fleet = Fleet::open();
+    assert_eq!(rt; fleet.add(&Nearest, 1, 3, &THREE)?, 1);
+    assert_eq!(rt; fleet.add(&Nearest, 2, 3, &THREE)?, 2);
+    check_two_units(&rt, &fleet, 2)
 }
 
 #[test]
 fn a_unit_with_a_partial_outage(rt: HostRuntime) -> Result<(), Fail> {
-    let mut fleet = two_units(&rt)?;
+    let mut fleet = Fleet::open();
+    assert_eq!(rt; fleet.add(&Nearest, 1, 3, &THREE)?, 1);
+    assert_eq!(rt; fleet.add(&Nearest, 2, 3, &THREE)?, 2);
     assert_eq!(rt; fleet.add(&Nearest, 3, 5, &FIVE)?, 3);
     check_entries(
         &rt,

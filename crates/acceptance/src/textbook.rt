@@ -50,7 +50,8 @@ fn five_units_of_forty(rt: HostRuntime) -> Result<(), Fail> {
     check_printed(&rt, &fleet, 40, 49_009_950_100, 49_009)?;
     check_printed(&rt, &fleet, 80, 980_149_600, 980)?;
     check_printed(&rt, &fleet, 120, 9_850_600, 9)?;
-    check_printed(&rt, &fleet, 121, 49_600, 0).note("left out in print")
+    // left out in print
+    check_printed(&rt, &fleet, 121, 49_600, 0)
 }
 
 // The same units with a peak of 160 MW that falls to 40 percent of it in a straight line. Of 365
