@@ -6,6 +6,7 @@ use indices::intake;
 use rounding::Nearest;
 use std::io;
 use std::io::Read;
+use std::process::ExitCode;
 
 // One byte more than a sheet may have, so that a longer input shows.
 const MOST_READ: u64 = 65_536;
@@ -38,14 +39,22 @@ fn answer(rt: &HostRuntime, sheet: &[u8]) -> io::Result<()> {
 }
 
 // Says on standard error what could not be done.
-fn report<T>(rt: &HostRuntime, what: &str, res: io::Result<T>) -> io::Result<T> {
-    if let Err(e) = &res {
+fn report<T>(rt: &HostRuntime, what: &str, outcome: io::Result<T>) -> io::Result<T> {
+    if let Err(e) = &outcome {
         let _ = eprintln!(rt; "copt: {what}: {e}");
     }
-    res
+    outcome
 }
 
-fn main(rt: HostRuntime) -> io::Result<()> {
-    let sheet = report(&rt, "cannot read standard input", read_sheet(&rt))?;
-    report(&rt, "cannot write standard output", answer(&rt, &sheet))
+fn run(rt: &HostRuntime) -> io::Result<()> {
+    let sheet = report(rt, "cannot read standard input", read_sheet(rt))?;
+    report(rt, "cannot write standard output", answer(rt, &sheet))
+}
+
+fn main(rt: HostRuntime) -> ExitCode {
+    match run(&rt) {
+        Ok(()) => ExitCode::SUCCESS,
+        // An error that `main` returned would be printed a second time.
+        Err(_) => ExitCode::FAILURE,
+    }
 }
