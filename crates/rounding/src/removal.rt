@@ -9,17 +9,6 @@ use crate::rule::Rounding;
 use crate::state::State;
 use crate::table::{MILLION, amount, entry_before};
 
-// What the states after the first leave of a million times the entry at k; at least 0.
-fn left_by(rest: &[State], entries: &[u64], k: usize) -> u64
-    requires within { k < length entries.now }
-    requires shares { weights rest.now ≤ million }
-    requires entries_fit { (i : ℕ) → slice_index entries.now i ≤ full }
-    ensures { result ≡ million * slice_index entries.now k - amount_of rest.now entries.now k }
-{
-    let whole = u64::from(MILLION) * entries[k];
-    whole.saturating_sub(amount(rest, entries, k))
-}
-
 // The entry at k without the unit. The entries below k are those without it already; rounding may
 // not make one rise above the one before.
 fn entry_without<R: Rounding>(
@@ -38,7 +27,10 @@ fn entry_without<R: Rounding>(
     if k > greatest {
         return 0;
     }
-    let told = rule.round(left_by(rest, entries, k), first.weight);
+    // what the states after the first leave of a million times the entry; at least 0
+    let whole = u64::from(MILLION) * entries[k];
+    let left = whole.saturating_sub(amount(rest, entries, k));
+    let told = rule.round(left, first.weight);
     told.min(entry_before(entries, k, 1))
 }
 

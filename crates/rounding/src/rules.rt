@@ -1,8 +1,29 @@
 // The three rounding rules that are delivered.
-ghost use Rattle.rounding.specs.Rule.{down, up, nearest};
+ghost use Rattle.std.specs.Prelude.{◌≡◌, ℕ, ◌^◌, ◌<◌, Bool, true};
+ghost use Rattle.rounding.specs.Rule.{divided, down, up, nearest};
 ghost use Rattle.rounding.specs.Division.{down_close, down_rising, up_close, up_rising, nearest_close, nearest_rising};
 
 use crate::rule::Rounding;
+
+// The quotient, raised by one where `one_more` says so of the remainder and the divisor; 0 for
+// divisor 0.
+fn divided<F: Fn(u64, u64) -> bool>(amount: u64, divisor: u32, one_more: F) -> u64
+    requires callable { (r d : ℕ) → r < d → d < 2 ^ 32 → F.pre one_more r d }
+    requires exact { (d : ℕ) → 0 < d → F.post one_more 0 d true → ⊥ }
+    ensures none { divisor ≡ 0 → result ≡ 0 }
+    ensures value { (says : ℕ → ℕ → Bool) → ((r d : ℕ) (b : Bool) → F.post one_more r d b → b ≡ says r d) → result ≡ divided says amount divisor }
+{
+    if divisor == 0 {
+        return 0;
+    }
+    let divisor = u64::from(divisor);
+    let quotient = amount / divisor;
+    if one_more(amount % divisor, divisor) {
+        quotient + 1
+    } else {
+        quotient
+    }
+}
 
 // The quotient.
 #[derive(Clone, Copy, Debug)]
@@ -16,10 +37,7 @@ impl Rounding for Down {
     ghost rising = { λ rule. down_rising };
 
     fn round(&self, amount: u64, divisor: u32) -> u64 {
-        if divisor == 0 {
-            return 0;
-        }
-        amount / u64::from(divisor)
+        divided(amount, divisor, |_, _| false)
     }
 }
 
@@ -35,16 +53,7 @@ impl Rounding for Up {
     ghost rising = { λ rule. up_rising };
 
     fn round(&self, amount: u64, divisor: u32) -> u64 {
-        if divisor == 0 {
-            return 0;
-        }
-        let divisor = u64::from(divisor);
-        let quotient = amount / divisor;
-        if amount % divisor == 0 {
-            quotient
-        } else {
-            quotient + 1
-        }
+        divided(amount, divisor, |remainder, _| remainder > 0)
     }
 }
 
@@ -60,15 +69,10 @@ impl Rounding for Nearest {
     ghost rising = { λ rule. nearest_rising };
 
     fn round(&self, amount: u64, divisor: u32) -> u64 {
-        if divisor == 0 {
-            return 0;
-        }
-        let divisor = u64::from(divisor);
-        let quotient = amount / divisor;
-        if 2 * (amount % divisor) >= divisor {
-            quotient + 1
-        } else {
-            quotient
-        }
+        divided(
+            amount,
+            divisor,
+            |remainder, divisor| 2 * remainder >= divisor,
+        )
     }
 }

@@ -1,6 +1,6 @@
 // A state of a generating unit: how many steps of capacity are out, and how likely that is.
 
-#[derive(Clone, Copy, PartialEq, Eq, Debug)]
+#[derive(Clone, Copy, PartialEq, Eq, Debug, Default)]
 pub struct State {
     // steps of capacity that are out
     pub outage: u32,

@@ -1,10 +1,10 @@
-use Rattle.std.proofs.Common.{◌-◌, ◌*◌, List, length, get_or, take, drop, sym, refl, ap, ◌∙◌, subst, arith, rules}
+use Rattle.std.proofs.Common.{◌-◌, ◌*◌, List, length, get_or, take, drop, sym, ap, ◌∙◌, subst, arith, rules}
 use Rattle.rounding.specs.Table.{Within}
 use Rattle.rounding.specs.Mixture.{million, mixture}
 use Rattle.rounding.specs.Tolerance.{removal_tolerance}
 use Rattle.rounding.specs.Removing.{first_weight, without}
 use Rattle.rounding.specs.declared.state.State.{State}
-use Rattle.rounding.proofs.Reverse.{Removed, starting_some, states_apart, Asked_of, asked_of, partly_le, partly_more, without_is, without_certain, without_falling, without_zeros, without_within}
+use Rattle.rounding.proofs.Reverse.{Removed, states_apart, Asked_of, asked_of, partly_le, partly_more, without_is, without_certain, without_falling, without_zeros, without_within}
 use Rattle.rounding.proofs.removal.remove.Goals.{In-len1-up}
 use Rattle.rounding.proofs.removal.remove.Goals as goal
 
@@ -20,9 +20,6 @@ asks g c =
     let p = c.requires in
     asked_of c.args.states.now _ _ (states_apart c.args.states.now nothing (search rules)) p.shares p.starting p.mostly
 
-pub returns-in_default : goal.returns-in_default
-returns-in_default g c = absurd (starting_some c.args.states.now (search rules) c.requires.starting)
-
 pub entry_without-requires : goal.entry_without-requires
 entry_without-requires g c =
     let of = asks g (goal.at.entry_without-requires g c).In-len1-up in
@@ -31,9 +28,6 @@ entry_without-requires g c =
       shares = omega (arith, of.shares);
       entries_fit = partly_le _ _ _ of.later _ _ _ _ c.requires.certain c.requires.falling c.loop-k.invariant;
     }
-
-pub loop-k-init : goal.loop-k-init
-loop-k-init g c = record { places = refl; made = λ j h. absurd (omega arith); kept = λ j h. refl }
 
 pub loop-k-preserved : goal.loop-k-preserved
 loop-k-preserved g c =

@@ -1,4 +1,4 @@
-use Rattle.std.proofs.Common.{◌≡◌, ◌+◌, ◌-◌, refl, subst, arith}
+use Rattle.std.proofs.Common.{◌≡◌, ◌+◌, ◌-◌, subst, arith}
 use Rattle.rounding.proofs.Recursion.{Partly, Added, partly_le, partly_more, added_is, added_certain, added_falling, added_zeros, added_within}
 use Rattle.rounding.proofs.table.add.Goals as goal
 
@@ -8,9 +8,6 @@ amount-requires g c = record {
   shares = omega arith;
   entries_fit = partly_le _ (g.met.R.Rounding.close c.args.rule.now) (g.met.R.Rounding.rising c.args.rule.now) _ c.requires.shares _ c.requires.certain c.requires.falling _ _ c.loop-k.invariant;
 }
-
-pub loop-k-init : goal.loop-k-init
-loop-k-init g c = record { places = refl; kept = λ j h. refl; made = λ j h in'. absurd (omega arith) }
 
 pub loop-k-preserved : goal.loop-k-preserved
 loop-k-preserved g c =

@@ -1,4 +1,4 @@
-use Rattle.std.proofs.Common.{◌≡◌, ◌+◌, ◌*◌, ◌≤◌, take, sym, ap, ◌∙◌, arith, take_all}
+use Rattle.std.proofs.Common.{◌≡◌, ◌+◌, ◌*◌, ◌≤◌, take, sym, arith}
 use Rattle.rounding.specs.Mixture.{amount}
 use Rattle.rounding.proofs.Amounts.{amount_none, amount_more, amount_fits}
 use Rattle.rounding.proofs.table.amount.Goals as goal
@@ -23,6 +23,3 @@ loop-state-init c = sym (amount_none c.args.entries.now c.args.k)
 
 pub loop-state-preserved : goal.loop-state-preserved
 loop-state-preserved c = next c
-
-pub returns : goal.returns
-returns c = c.loop-state.invariant ∙ ap (λ states. amount states c.args.entries.now c.args.k) (take_all _ _ c.loop-state-test.false)
