@@ -6,11 +6,10 @@ use Rattle.rounding.specs.Tolerance.{raised}
 use Rattle.rounding.specs.Adding.{added}
 use Rattle.rounding.specs.declared.state.State.{State}
 use Rattle.fleet.specs.States.{lawful, outage_of_last}
-use Rattle.fleet.specs.Units.{GeneratingUnit, new_unit, greatest_outage}
+use Rattle.fleet.specs.Units.{GeneratingUnit, new_unit, service_outage, greatest_outage}
 use Rattle.fleet.specs.Ledger.{Ledger}
 use Rattle.fleet.specs.Limits.{tolerance_refusal}
 use Rattle.fleet.specs.Adding.{identity_refusal, capacity_refusal, unit_refusal, add_refusal, after_add}
-use Rattle.fleet.specs.declared.record.Share.TheVariants.{Outage}
 use Rattle.fleet.specs.declared.refusal.Refusal.TheVariants.{States, Tolerance}
 use Rattle.fleet.proofs.Refusing.{accepted, both_accepted, unless_accepted}
 use Rattle.fleet.proofs.Listing.{total_push}
@@ -29,7 +28,7 @@ length_added answer states old = length-map-range_with_len _ 0 (length old)
 
 -- the greatest outage rises by the last outage of the new unit
 pub added_outage : (units new : List GeneratingUnit) (identity capacity : ℕ) (states : List State) → new ≡ units ++ new_unit identity capacity states ∷ [] → greatest_outage new ≡ greatest_outage units + outage_of_last states
-added_outage units new identity capacity states h = ap greatest_outage h ∙ total_push Outage units (new_unit identity capacity states)
+added_outage units new identity capacity states h = ap greatest_outage h ∙ total_push service_outage units (new_unit identity capacity states)
 
 pub after_accepted : (answer : ℕ → ℕ → ℕ) (l new : Ledger) (identity capacity : ℕ) (states : List State) → add_refusal l identity capacity states ≡ None → new.units ≡ l.units ++ new_unit identity capacity states ∷ [] → new.table ≡ added answer states l.table → new.tolerance ≡ raised l.tolerance → new ≡ after_add answer l identity capacity states
 after_accepted answer l new identity capacity states h units table tolerance =

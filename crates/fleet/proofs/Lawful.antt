@@ -1,10 +1,11 @@
 -- The rules on states, taken apart as first and rest. Assumes nothing.
 use Rattle.std.proofs.Common.{◌≡◌, ℕ, suc, ◌+◌, ◌-◌, ◌<◌, ◌≤◌, Bool, true, false, ◌&&◌, eqb, ltb, leb, List, [], ◌∷◌, length, get_or, take, drop, sym, refl, ap, le_refl, arith}
-use Rattle.std.specs.List.{AllByRecursion}
+use Rattle.std.specs.List.{AllByRecursion, slice_get}
+use Rattle.std.specs.Option.{option_map, unwrap_or}
 use Rattle.std.proofs.ByRecursion.{All-weaker}
 use Rattle.std.proofs.lemmas.List.{at_drop_more, at_drop_all, take_rest}
 use Rattle.std.proofs.lemmas.List.Sums.{sum_by-cons}
-use Rattle.std.proofs.lemmas.Bool.{and_parts, ltb-true, leb-true, eqb-true, false≢true}
+use Rattle.std.proofs.lemmas.Bool.{and_parts, and_left, lt-leb, ltb-true, leb-true, eqb-true, false≢true}
 use Rattle.rounding.specs.Mixture.{million, weights, Outages}
 use Rattle.rounding.specs.Removing.{Starting, first_weight}
 use Rattle.rounding.specs.declared.state.State.{State}
@@ -26,6 +27,11 @@ unfolding lawful
 lawful_none capacity [] h = refl
 lawful_none capacity (s ∷ states) h = absurd (omega arith)
 
+pub lawful_many : (capacity : ℕ) (states : List State) → 8 < length states → lawful capacity states ≡ false
+unfolding lawful
+lawful_many capacity [] h = refl
+lawful_many capacity (s ∷ states) h = and_left _ _ (lt-leb _ 8 h)
+
 weights_cons : (s : State) (states : List State) → weights (s ∷ states) ≡ s.weight + weights states
 unfolding weights
 weights_cons s states = sum_by-cons (λ (t : State). t.weight) s states
@@ -38,19 +44,13 @@ lawful_apart capacity (s ∷ states) d h =
     let rest = take_rest (s ∷ states) 1 in
     ap (λ r. leb (length (s ∷ states)) 8 && (starts s && (later capacity s.outage r && eqb (weights (s ∷ states)) million))) (sym rest)
 
-pub last_none : (states : List State) → length states ≤ 0 → outage_of_last states ≡ 0
+pub last_is : (states : List State) → outage_of_last states ≡ unwrap_or (option_map (λ s. s.outage) (slice_get states (length states - 1))) 0
 unfolding outage_of_last
-last_none [] h = refl
-last_none (s ∷ states) h = absurd (omega arith)
-
-pub last_at : (states : List State) (d : State) → 0 < length states → outage_of_last states ≡ (get_or states (length states - 1) d).outage
-unfolding outage_of_last
-last_at [] d h = absurd (omega arith)
-last_at (s ∷ []) d h = refl
-last_at (s ∷ t ∷ states) d h =
+last_is [] = refl
+last_is (s ∷ []) = refl
+last_is (s ∷ t ∷ states) =
     let up : suc (suc (length states)) - 1 ≡ suc (suc (length states) - 1) = omega arith in
-    let some : 0 < length (t ∷ states) = omega arith in
-    rw up (last_at (t ∷ states) d some)
+    rw up (last_is (t ∷ states))
 
 -- the last outage is the greatest, and not above the capacity
 later_last : (capacity : ℕ) (s : State) (states : List State) → later capacity s.outage states ≡ true → s.outage ≤ capacity → Outages (outage_of_last (s ∷ states)) (s ∷ states) × (outage_of_last (s ∷ states) ≤ capacity)

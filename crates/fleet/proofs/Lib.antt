@@ -4,7 +4,6 @@ pub mod Refusing
 pub mod Listing
 pub mod Standings
 pub mod Striking
-pub mod Registered
 pub mod Adding
 pub mod Removals
 pub mod Opening

@@ -1,14 +1,11 @@
 -- Units by their identity. Assumes nothing.
-use Rattle.std.specs.Prelude.{ℕ, ◌+◌, Bool, cond, List, [], ◌∷◌, is_some, Some, None, Option, ◌==◌}
+use Rattle.std.specs.Prelude.{ℕ, Bool, cond, List, [], ◌∷◌, is_some, Some, None, Option, ◌==◌}
+use Rattle.std.specs.List.{position}
 use Rattle.fleet.specs.Units.{GeneratingUnit}
 
--- the place of the first unit with an identity, counted from i
-unfoldable pub place_from : ℕ → ℕ → List GeneratingUnit → Option ℕ
-place_from i identity [] = None
-place_from i identity (u ∷ units) = cond (u.identity == identity) (Some i) (place_from (i + 1) identity units)
-
+-- the place of the first unit with an identity
 abbrev pub place : ℕ → List GeneratingUnit → Option ℕ
-place identity units = place_from 0 identity units
+place identity units = position (λ u. u.identity == identity) units
 
 abbrev pub registered : ℕ → List GeneratingUnit → Bool
 registered identity units = is_some (place identity units)

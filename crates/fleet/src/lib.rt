@@ -6,6 +6,7 @@ mod record;
 mod refusal;
 mod register;
 mod states;
+mod table;
 
 pub use fleet::Fleet;
 pub use refusal::Refusal;

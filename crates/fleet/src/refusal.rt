@@ -5,54 +5,39 @@ ghost use Rattle.fleet.specs.Refusals.{number as number_of_refusal};
 #[derive(Clone, Copy, PartialEq, Eq, Debug)]
 pub enum Refusal {
     // the identity is not one of 1 to 65,535
-    Identity,
+    Identity = 1,
     // the capacity is not one of 1 to 1,000
-    Capacity,
+    Capacity = 2,
     // the states do not keep their rules
-    States,
+    States = 3,
     // the identity is registered
-    Registered,
+    Registered = 4,
     // 64 units are registered
-    Full,
+    Full = 5,
     // all registered units, in service or out, would come to more than 1,000 steps
-    TotalCapacity,
+    TotalCapacity = 6,
     // the identity is not registered
-    NotRegistered,
+    NotRegistered = 7,
     // the unit is out already, or in service where it must be out
-    Standing,
+    Standing = 8,
     // the weight of the unit's first state is at most 500,000
-    FirstWeight,
+    FirstWeight = 9,
     // the new tolerance would pass 1,000,000
-    Tolerance,
+    Tolerance = 10,
     // a place above 1,000
-    Place,
+    Place = 11,
     // a load model with a wrong number of days, load or percentage
-    Loads,
+    Loads = 12,
     // an index meets a load above the limit
-    AboveLimit,
+    AboveLimit = 13,
     // no hours, or more than 1,000,000 of a kind
-    Hours,
+    Hours = 14,
 }
 
 impl Refusal {
     pub fn number(&self) -> u8
         ensures { result ≡ number_of_refusal self.now }
     {
-        match self {
-            Refusal::Identity => 1,
-            Refusal::Capacity => 2,
-            Refusal::States => 3,
-            Refusal::Registered => 4,
-            Refusal::Full => 5,
-            Refusal::TotalCapacity => 6,
-            Refusal::NotRegistered => 7,
-            Refusal::Standing => 8,
-            Refusal::FirstWeight => 9,
-            Refusal::Tolerance => 10,
-            Refusal::Place => 11,
-            Refusal::Loads => 12,
-            Refusal::AboveLimit => 13,
-            Refusal::Hours => 14,
-        }
+        *self as u8
     }
 }

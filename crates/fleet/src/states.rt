@@ -3,6 +3,7 @@ ghost use Rattle.std.specs.Prelude.{◌≡◌, ◌≤◌, length};
 ghost use Rattle.rounding.specs.Mixture.{weights};
 ghost use Rattle.fleet.specs.States.{starts as state_starts, follows as state_follows, later as later_states, lawful as lawful_states};
 
+use arrayvec::ArrayVec;
 use rounding::{MILLION, State};
 
 // A unit has at most this many states.
@@ -13,11 +14,7 @@ fn total_weight(states: &[State]) -> u64
     requires { length states.now ≤ 8 }
     ensures { result ≡ weights states.now }
 {
-    let mut total: u64 = 0;
-    for state in states {
-        total += u64::from(state.weight);
-    }
-    total
+    states.iter().map(|state| u64::from(state.weight)).sum()
 }
 
 // Whether a state may stand after one with the outage `before`.
@@ -49,20 +46,14 @@ fn starts(state: State) -> bool
 }
 
 // Whether the states keep every rule for a unit of this capacity.
-pub(crate) fn lawful(capacity: u32, states: &[State]) -> bool
-    ensures { result ≡ lawful_states capacity states.now }
+pub(crate) fn lawful(capacity: u32, states: &ArrayVec<State, STATES>) -> bool
+    ensures { result ≡ lawful_states capacity states.now.items }
 {
+    let states = states.as_slice();
     let [first, rest @ ..] = states else {
         return false;
     };
-    if states.len() > STATES {
-        return false;
-    }
-    if !starts(*first) {
-        return false;
-    }
-    if !later(capacity, first.outage, rest) {
-        return false;
-    }
-    total_weight(states) == u64::from(MILLION)
+    starts(*first)
+        && later(capacity, first.outage, rest)
+        && total_weight(states) == u64::from(MILLION)
 }

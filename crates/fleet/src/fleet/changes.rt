@@ -7,11 +7,11 @@ ghost use Rattle.fleet.specs.Adding.{add_refusal, after_add};
 ghost use Rattle.fleet.specs.Fleets.{ledger_of};
 
 use super::Fleet;
-use super::table::open_table;
 use super::tolerance::raised;
 use crate::record::UnitRecord;
 use crate::refusal::Refusal;
 use crate::register::Register;
+use crate::table::Table;
 use rounding::{Rounding, State};
 
 impl Fleet {
@@ -21,7 +21,7 @@ impl Fleet {
     {
         Fleet {
             register: Register::empty(),
-            table: open_table(),
+            table: Table::open(),
             tolerance: 0,
         }
     }
@@ -41,7 +41,7 @@ impl Fleet {
         let unit = UnitRecord::checked(identity, capacity, states)?;
         self.register.room(identity, capacity)?;
         let tolerance = raised(self.tolerance)?;
-        rounding::add(rule, states, &mut self.table);
+        self.table.add(rule, &unit);
         self.register.push(unit);
         self.tolerance = tolerance;
         Ok(tolerance)

@@ -6,8 +6,8 @@ ghost use Rattle.fleet.specs.LookUp.{look_up};
 ghost use Rattle.fleet.specs.Entries.{Entry, entry_refusal};
 ghost use Rattle.fleet.specs.Fleets.{ledger_of};
 
-use super::{Fleet, PLACES};
-use crate::record::Share;
+use super::Fleet;
+use crate::record::UnitRecord;
 use crate::refusal::Refusal;
 
 impl Fleet {
@@ -15,11 +15,7 @@ impl Fleet {
     pub fn entry(&self, k: u32) -> Result<(u64, u32), Refusal>
         ensures { Outcome (entry_refusal k) result (λ answer. Entry (ledger_of self.now) k answer) }
     {
-        let k = k as usize;
-        if k >= PLACES {
-            return Err(Refusal::Place);
-        }
-        Ok((self.table[k], self.tolerance))
+        Ok((self.table.entry(k)?, self.tolerance))
     }
 
     // The capacity and the standing (1 in service, 0 out) of a registered identity.
@@ -27,7 +23,7 @@ impl Fleet {
         ensures { result ≡ look_up identity (ledger_of self.now).units }
     {
         let place = self.register.find(identity)?;
-        Some(self.register.at(place))
+        Some(self.register.registered()[place].plain())
     }
 
     // The capacity of the units in service.
@@ -35,7 +31,7 @@ impl Fleet {
         ensures value { result ≡ service_capacity (ledger_of self.now).units }
         ensures bound { result ≤ 1000 }
     {
-        self.register.total(Share::InService)
+        self.register.total(UnitRecord::service_capacity)
     }
 
     // The greatest possible outage of the units in service.
@@ -43,6 +39,6 @@ impl Fleet {
         ensures value { result ≡ greatest_outage (ledger_of self.now).units }
         ensures bound { result ≤ 1000 }
     {
-        self.register.total(Share::Outage)
+        self.register.total(UnitRecord::service_outage)
     }
 }

@@ -12,10 +12,10 @@ ghost use Rattle.fleet.specs.Rebuilding.{after_rebuild};
 ghost use Rattle.fleet.specs.Fleets.{ledger_of};
 
 use super::Fleet;
-use super::table::{build, open_table};
 use super::tolerance::{after_removal, raised};
-use crate::record::Share;
+use crate::record::UnitRecord;
 use crate::refusal::Refusal;
+use crate::table::Table;
 use rounding::Rounding;
 
 impl Fleet {
@@ -28,11 +28,12 @@ impl Fleet {
         let Some(place) = self.register.find(identity) else {
             return Err(Refusal::NotRegistered);
         };
-        let unit = self.register.standing(place, true)?;
+        let unit = &self.register.registered()[place];
+        unit.stands(true)?;
         let tolerance = after_removal(self.tolerance, unit.first_weight())?;
+        let greatest = self.register.total(UnitRecord::service_outage) - unit.service_outage();
+        self.table.remove(rule, unit, greatest);
         self.register.set_serving(place, false);
-        let greatest = self.register.total(Share::Outage) as usize;
-        rounding::remove(rule, unit.states(), greatest, &mut self.table);
         self.tolerance = tolerance;
         Ok(tolerance)
     }
@@ -46,9 +47,10 @@ impl Fleet {
         let Some(place) = self.register.find(identity) else {
             return Err(Refusal::NotRegistered);
         };
-        let unit = self.register.standing(place, false)?;
+        let unit = &self.register.registered()[place];
+        unit.stands(false)?;
         let tolerance = raised(self.tolerance)?;
-        rounding::add(rule, unit.states(), &mut self.table);
+        self.table.add(rule, unit);
         self.register.set_serving(place, true);
         self.tolerance = tolerance;
         Ok(tolerance)
@@ -62,7 +64,7 @@ impl Fleet {
         let Some(place) = self.register.find(identity) else {
             return Err(Refusal::NotRegistered);
         };
-        self.register.standing(place, false)?;
+        self.register.registered()[place].stands(false)?;
         self.register.strike(place);
         Ok(self.register.len() as u32)
     }
@@ -73,8 +75,8 @@ impl Fleet {
         ensures answer { result ≡ length (in_service (ledger_of self.old).units) }
         ensures after { ledger_of self.new ≡ after_rebuild (R.answer rule.now) (ledger_of self.old) }
     {
-        let mut table = open_table();
-        let count = build(rule, self.register.registered(), &mut table);
+        let mut table = Table::open();
+        let count = table.build(rule, self.register.registered());
         self.table = table;
         self.tolerance = count;
         count

@@ -1,85 +1,55 @@
 // What can be asked of a register.
-ghost use Rattle.std.specs.Prelude.{◌≡◌, ◌^◌, ◌<◌, ◌≤◌, map, length, take, slice_index_or};
+ghost use Rattle.std.specs.Prelude.{◌≡◌, ℕ, ◌<◌, ◌≤◌, map, length, IfSome};
+ghost use Rattle.std.specs.Fn.{FnReturnsAt};
 ghost use Rattle.fleet.specs.Refusals.{Outcome};
 ghost use Rattle.fleet.specs.Units.{GeneratingUnit, unit_of, total as total_of};
-ghost use Rattle.fleet.specs.LookUp.{place as place_of, plain};
+ghost use Rattle.fleet.specs.LookUp.{place as place_of};
 ghost use Rattle.fleet.specs.Adding.{room_refusal};
-ghost use Rattle.fleet.specs.Standing.{unit_at, standing_refusal};
 ghost use Rattle.fleet.specs.Registers.{units_of};
+ghost use Rattle.fleet.specs.declared.record.UnitRecord.{UnitRecord};
 
-use super::{Register, UNITS};
-use crate::record::{CAPACITY, Share, UnitRecord};
+use super::Register;
+use crate::record::{CAPACITY, UnitRecord};
 use crate::refusal::Refusal;
 
-// The place of the first of these units with an identity.
-fn find(units: &[UnitRecord], identity: u32) -> Option<usize>
-    ensures { result ≡ place_of identity (map unit_of units.now) }
-{
-    for (i, unit) in units.iter().enumerate() {
-        if unit.identity == identity {
-            return Some(i);
-        }
-    }
-    None
-}
-
-// The sum of what these units count for.
-fn total(units: &[UnitRecord], which: Share) -> u32
-    requires { total_of which (map unit_of units.now) < 2 ^ 32 }
-    ensures { result ≡ total_of which (map unit_of units.now) }
-{
-    let mut sum: u32 = 0;
-    for unit in units {
-        sum += unit.share(which);
-    }
-    sum
-}
-
 impl Register {
+    // The registered units, the earliest first.
     pub(crate) fn registered(&self) -> &[UnitRecord]
-        ensures { result.now ≡ take self.now.len self.now.units }
+        ensures units { map unit_of result.now ≡ units_of self.now }
+        ensures few { length result.now ≤ 64 }
     {
-        &self.units[0..self.len]
+        self.units.as_slice()
     }
 
     pub(crate) fn len(&self) -> usize
-        ensures { result ≡ length (units_of self.now) }
+        ensures value { result ≡ length (units_of self.now) }
+        ensures few { result ≤ 64 }
     {
-        self.len
+        self.units.len()
     }
 
     // The place of the unit with an identity.
     pub(crate) fn find(&self, identity: u32) -> Option<usize>
-        ensures { result ≡ place_of identity (units_of self.now) }
+        ensures place { result ≡ place_of identity (units_of self.now) }
+        ensures inside { IfSome result (λ place. place < length (units_of self.now)) }
     {
-        find(self.registered(), identity)
+        self.registered()
+            .iter()
+            .position(|unit| unit.identity == identity)
     }
 
-    // The capacity and the standing of the unit at a place.
-    pub(crate) fn at(&self, place: usize) -> (u32, u32)
-        requires { place < length (units_of self.now) }
-        ensures { (d : GeneratingUnit) → result ≡ plain (slice_index_or (units_of self.now) place d) }
-    {
-        self.units[place].plain()
-    }
-
-    pub(crate) fn total(&self, which: Share) -> u32
-        ensures value { result ≡ total_of which (units_of self.now) }
+    // The sum of what the units count for, none of them for more than its capacity.
+    pub(crate) fn total<F: Fn(&UnitRecord) -> u32>(&self, share: F) -> u32
+        requires callable { F.IsAlwaysCallable share }
+        requires held { (u : UnitRecord) (n : ℕ) → FnReturnsAt F.Fn share u n → n ≤ u.capacity }
+        ensures value { (counts : GeneratingUnit → ℕ) → ((u : UnitRecord) (n : ℕ) → FnReturnsAt F.Fn share u n → n ≡ counts (unit_of u)) → result ≡ total_of counts (units_of self.now) }
         ensures bound { result ≤ 1000 }
     {
-        total(self.registered(), which)
-    }
-
-    // The record of the unit at a place, if it stands as a call needs it.
-    pub(crate) fn standing(&self, place: usize, serving: bool) -> Result<UnitRecord, Refusal>
-        requires { place < length (units_of self.now) }
-        ensures { Outcome (standing_refusal serving (unit_at place (units_of self.now))) result (λ u. unit_of u ≡ unit_at place (units_of self.now)) }
-    {
-        let unit = self.units[place];
-        if unit.serving != serving {
-            return Err(Refusal::Standing);
+        let mut sum: u32 = 0;
+        for unit in self.registered() {
+            sum += share(unit);
         }
-        Ok(unit)
+        sum
     }
 
     // Whether one unit more finds room.
@@ -90,10 +60,10 @@ impl Register {
         if self.find(identity).is_some() {
             return Err(Refusal::Registered);
         }
-        if self.len() >= UNITS {
+        if self.units.is_full() {
             return Err(Refusal::Full);
         }
-        if self.total(Share::Registered) + capacity > CAPACITY {
+        if self.total(UnitRecord::whole_capacity) + capacity > CAPACITY {
             return Err(Refusal::TotalCapacity);
         }
         Ok(())

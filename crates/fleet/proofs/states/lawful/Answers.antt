@@ -1,36 +1,33 @@
-use Rattle.std.proofs.Common.{eqb, sym, ap, ◌∙◌, rules}
-use Rattle.std.proofs.lemmas.Bool.{and_left, and_right, lt-leb, le-leb}
+use Rattle.std.proofs.Common.{◌≡◌, ◌-◌, ◌&&◌, eqb, length, get_or, take, drop, sym, ap, ◌∙◌, rules}
+use Rattle.std.proofs.lemmas.Bool.{and_left, le-leb, false≢true}
+use Rattle.rounding.specs.Mixture.{million, weights}
 use Rattle.rounding.specs.declared.state.State.{State}
+use Rattle.fleet.specs.States.{starts, later, lawful}
 use Rattle.fleet.proofs.Lawful.{lawful_none, lawful_apart, and_true}
+use Rattle.fleet.proofs.states.lawful.Goals.{In-len1-up, then-starts, else-starts}
 use Rattle.fleet.proofs.states.lawful.Goals as goal
 
 abbrev nothing : State
 nothing = record { outage = 0; weight = 0 }
 
+-- at most eight states that are some
+judged : (c : In-len1-up) → let states = c.as_slice-states.result.now in lawful c.args.capacity c.args.states.now.items ≡ starts (get_or states 0 nothing) && (later c.args.capacity (get_or states 0 nothing).outage (take (length states - 1) (drop 1 states)) && eqb (weights states) million)
+judged c =
+    let states = c.as_slice-states.result.now in
+    ap (lawful c.args.capacity) (sym c.as_slice-states.ensures.value) ∙ lawful_apart c.args.capacity states nothing c.in-len1-up.len_at_least ∙ and_true _ _ (le-leb _ 8 c.as_slice-states.ensures.fits)
+
 pub returns-in_default : goal.returns-in_default
-returns-in_default c = sym (lawful_none c.args.capacity c.args.states.now (search rules))
+returns-in_default c = sym (lawful_none c.args.capacity c.args.states.now.items (search rules))
 
-pub returns-then-states-gt-STATES : goal.returns-then-states-gt-STATES
-returns-then-states-gt-STATES c =
-    sym (lawful_apart c.args.capacity c.args.states.now nothing (search rules) ∙ and_left _ _ (lt-leb _ 8 c.if-states-gt-STATES.true))
+pub returns-else-later : goal.returns-else-later
+returns-else-later c =
+    let said = judged (goal.at.returns-else-later c).In-len1-up in
+    c.if-later.false
+    ∙ sym
+    (elim c.if-starts.branch [ then-starts w ↦ said ∙ and_true _ _ (sym c.starts.ensures ∙ w.if-starts.true) ∙ and_left _ _ (sym w.later.ensures ∙ sym w.value-is ∙ c.if-later.false) | else-starts w ↦ said ∙ and_left _ _ (sym c.starts.ensures ∙ w.if-starts.false) ])
 
-pub returns-then-not-starts : goal.returns-then-not-starts
-returns-then-not-starts c =
-    sym (lawful_apart c.args.capacity c.args.states.now nothing (search rules) ∙ and_right _ _ (and_left _ _ (sym c.if-not-starts.ensures)))
-
-pub returns-then-not-later : goal.returns-then-not-later
-returns-then-not-later c =
-    sym (lawful_apart c.args.capacity c.args.states.now nothing (search rules)
-    ∙ and_true _ _ (le-leb _ 8 c.if-states-gt-STATES.false)
-    ∙ and_true _ _ (sym c.if-not-starts.ensures)
-    ∙ and_left _ _ (sym c.if-not-later.ensures))
-
-pub returns : goal.returns
-returns c =
+pub returns-then-later : goal.returns-then-later
+returns-then-later c =
+    let said = judged (goal.at.returns-then-later c).In-len1-up in
     sym
-    (lawful_apart c.args.capacity c.args.states.now nothing (search rules)
-    ∙ and_true _ _ (le-leb _ 8 c.if-states-gt-STATES.false)
-    ∙ and_true _ _ (sym c.if-not-starts.ensures)
-    ∙ and_true _ _ (sym c.if-not-later.ensures)
-    ∙ ap (λ w. eqb w 1000000) (sym c.total_weight.ensures)
-    ∙ ap (eqb c.total_weight.result) (sym c.from.ensures))
+    (elim c.if-starts.branch [ then-starts w ↦ said ∙ and_true _ _ (sym c.starts.ensures ∙ w.if-starts.true) ∙ and_true _ _ (sym w.later.ensures ∙ sym w.value-is ∙ c.if-later.true) ∙ ap (λ n. eqb n million) (sym c.total_weight.ensures) ∙ ap (eqb c.total_weight.result) (sym c.from.ensures) | else-starts w ↦ absurd (false≢true (sym w.if-starts.false ∙ sym w.value-is ∙ c.if-later.true)) ])

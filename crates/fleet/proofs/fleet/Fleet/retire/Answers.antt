@@ -1,27 +1,20 @@
-use Rattle.std.proofs.Common.{sym, ap, ◌∙◌, subst, arith}
+use Rattle.std.proofs.Common.{sym, ap, ◌∙◌, subst}
 use Rattle.rounding.specs.Table.{Zeros}
 use Rattle.fleet.specs.Units.{greatest_outage}
 use Rattle.fleet.specs.Registers.{units_of}
 use Rattle.fleet.specs.declared.refusal.Refusal.TheVariants.{Standing}
 use Rattle.fleet.proofs.Refusing.{accepted}
-use Rattle.fleet.proofs.Listing.{found}
-use Rattle.fleet.proofs.Registered.{held}
+use Rattle.fleet.proofs.Standings.{unit_there}
 use Rattle.fleet.proofs.Striking.{outage_struck}
 use Rattle.fleet.proofs.fleet.Fleet.retire.Goals as goal
-
-pub standing-requires : goal.standing-requires
-standing-requires c = (found c.args.identity (units_of c.args.self.now.register) c.in-Some.place (sym c.in-Some.ensures)).0
-
-pub strike-requires : goal.strike-requires
-strike-requires c = omega (arith, (found c.args.identity (units_of c.args.self.now.register) c.in-Some.place (sym c.in-Some.ensures)).0)
 
 pub invariant_of-self : goal.invariant_of-self
 invariant_of-self c =
     let self = c.args.self.now in
-    let here = found c.args.identity (units_of self.register) c.in-Some.place (sym c.in-Some.ensures) in
-    let out = accepted _ Standing c.in_ok-standing.ensures.0 in
-    let same = ap greatest_outage c.strike.ensures ∙ outage_struck (units_of self.register) c.in-Some.place here.0 out in
-    record { places = self.places; certain = self.certain; falling = self.falling; zeros = subst (λ m. Zeros m self.table) (sym same) self.zeros; held = self.held }
-
-pub overflow_cast-result : goal.overflow_cast-result
-overflow_cast-result c = record { fits = omega (arith, c.len.ensures, held c.strike.new.self) }
+    let units = units_of self.register in
+    let place = c.in-Some.place in
+    let inside = c.in-Some.ensures.inside in
+    let there = unit_there c.registered.result.now units place c.index-registered-place.result c.index-registered-place.result c.registered.ensures.units inside c.index-registered-place.is in
+    let out = ap (λ u. u.serving) there ∙ accepted _ Standing c.in_ok-stands.ensures.0 in
+    let same = ap greatest_outage c.strike.ensures ∙ outage_struck units place inside out in
+    record { zeros = subst (λ m. Zeros m self.table.entries) (sym same) self.zeros; held = self.held }

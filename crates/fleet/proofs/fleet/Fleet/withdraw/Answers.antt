@@ -1,47 +1,44 @@
-use Rattle.std.proofs.Common.{◌<◌, length, sym, ap, ◌∙◌, subst, arith}
+use Rattle.std.proofs.Common.{◌≡◌, ℕ, ◌+◌, ◌-◌, ◌<◌, false, List, map, length, get_or, None, sym, ap, ◌∙◌, subst, arith, rules}
+use Rattle.std.specs.Option.{unwrap_or}
 use Rattle.rounding.specs.Table.{Zeros}
-use Rattle.rounding.specs.Mixture.{weights}
-use Rattle.rounding.specs.Removing.{Starting, first_weight}
+use Rattle.rounding.specs.Tolerance.{removal_tolerance}
+use Rattle.fleet.specs.Units.{GeneratingUnit, unit_of, service_outage, greatest_outage}
+use Rattle.fleet.specs.Standing.{place_with, with_standing}
+use Rattle.fleet.specs.Withdrawing.{withdraw_refusal}
+use Rattle.fleet.specs.Fleets.{ledger_of}
 use Rattle.fleet.specs.Registers.{units_of}
-use Rattle.fleet.proofs.Lawful.{ruled}
-use Rattle.fleet.proofs.Listing.{found}
-use Rattle.fleet.proofs.Standings.{lawful_at}
-use Rattle.fleet.proofs.Removals.{accepted_removal, length_without}
+use Rattle.fleet.specs.declared.record.UnitRecord.{UnitRecord}
+use Rattle.fleet.proofs.Removals.{accepted_removal, after_accepted}
+use Rattle.fleet.proofs.Standings.{unit_there, outage_withdrawn}
 use Rattle.fleet.proofs.fleet.Fleet.withdraw.Goals as goal
 
-pub standing-requires : goal.standing-requires
-standing-requires g c = (found c.args.identity (units_of c.args.self.now.register) c.in-Some.place (sym c.in-Some.ensures)).0
+-- the greatest outage without the unit is less by what the unit counts for
+less : (units : List GeneratingUnit) (records : List UnitRecord) (place : ℕ) (r : UnitRecord) (all share : ℕ) → map unit_of records ≡ units → place < length units → r ≡ get_or records place r → all ≡ greatest_outage units → share ≡ service_outage (unit_of r) → all ≡ greatest_outage (with_standing false place units) + share
+less units records place r all share same inside is total one =
+    omega (arith, total, one, outage_withdrawn place units inside, ap service_outage (unit_there records units place r r same inside is))
 
-pub after_removal-requires : goal.after_removal-requires
-after_removal-requires g c =
-    let self = c.args.self.now in
-    let units = units_of self.register in
-    let inside = (found c.args.identity units c.in-Some.place (sym c.in-Some.ensures)).0 in
-    let rules = ruled _ _ (lawful_at units c.in-Some.place inside self.register.lawful) in
-    let weight = c.first_weight.ensures ∙ ap (λ u. first_weight u.states) c.in_ok-unit.ensures.1 in
-    record { tolerance = self.held; weight = omega (arith, weight, rules.weight_held) }
+pub overflow_sub-greatest : goal.overflow_sub-greatest
+overflow_sub-greatest g c =
+    let total = c.total.ensures.value service_outage (λ u n says. search rules) in
+    omega (arith, less (units_of c.args.self.now.register) _ c.in-Some.place _ _ _ c.registered.ensures.units c.in-Some.ensures.inside c.index-registered-place.is total c.service_outage.ensures.value)
 
-pub set_serving-requires : goal.set_serving-requires
-set_serving-requires g c = omega (arith, (found c.args.identity (units_of c.args.self.now.register) c.in-Some.place (sym c.in-Some.ensures)).0)
+pub invariant_of-self-2 : goal.invariant_of-self-2
+invariant_of-self-2 g c =
+    let total = c.total.ensures.value service_outage (λ u n says. search rules) in
+    let units = units_of c.args.self.now.register in
+    let without = less units _ c.in-Some.place _ _ _ c.registered.ensures.units c.in-Some.ensures.inside c.index-registered-place.is total c.service_outage.ensures.value in
+    let most : c.total.result - c.service_outage.result ≡ greatest_outage (units_of c.set_serving.new.self) = omega (arith, without, ap greatest_outage c.set_serving.ensures) in
+    let taken = c.in_ok-tolerance.ensures in
+    record { zeros = subst (λ m. Zeros m c.remove.new.self.entries) most c.remove.ensures.zeros; held = omega (arith, taken.1, (accepted_removal c.first_weight.result c.args.self.now.tolerance taken.0).1) }
 
-pub remove-requires : goal.remove-requires
-remove-requires g c =
-    let self = c.args.self.now in
-    let units = units_of self.register in
-    let inside = (found c.args.identity units c.in-Some.place (sym c.in-Some.ensures)).0 in
-    let rules = ruled _ _ (lawful_at units c.in-Some.place inside self.register.lawful) in
-    let states = c.states.ensures ∙ ap (λ u. u.states) c.in_ok-unit.ensures.1 in
-    let high = (accepted_removal _ _ c.in_ok-tolerance.ensures.0).0 in
-    record {
-      shares = ap weights states ∙ rules.shares;
-      starting = subst Starting (sym states) rules.starting;
-      mostly = subst (λ w. 500000 < w) (c.first_weight.ensures ∙ ap first_weight (sym c.states.ensures)) high;
-      certain = self.certain;
-      falling = self.falling;
-    }
-
-pub invariant_of-self : goal.invariant_of-self
-invariant_of-self g c =
-    let self = c.args.self.now in
-    let told = c.remove.ensures in
-    let taken = c.in_ok-tolerance.ensures in record { places = ap length told.entries ∙ length_without _ _ _ self.table ∙ self.places; certain = told.certain; falling = told.falling; zeros = subst (λ m. Zeros m c.remove.new.entries) c.total-greatest.ensures.value told.zeros; held = omega (arith, taken.1, (accepted_removal c.first_weight.result self.tolerance taken.0).1) }
+pub returns-clause-after : goal.returns-clause-after
+returns-clause-after g c =
+    let total = c.total.ensures.value service_outage (λ u n says. search rules) in
+    let units = units_of c.args.self.now.register in
+    let without = less units _ c.in-Some.place _ _ _ c.registered.ensures.units c.in-Some.ensures.inside c.index-registered-place.is total c.service_outage.ensures.value in
+    let most : c.total.result - c.service_outage.result ≡ greatest_outage (with_standing false c.in-Some.place units) = omega (arith, without) in
+    let there = unit_there _ units c.in-Some.place _ c.index-registered-place.result c.registered.ensures.units c.in-Some.ensures.inside c.index-registered-place.is in
+    let here : place_with c.args.identity units ≡ c.in-Some.place = ap (λ o. unwrap_or o 0) (sym c.in-Some.ensures.place) in
+    let none : withdraw_refusal (ledger_of c.args.self.now) c.args.identity ≡ None = search rules in
+    after_accepted (g.R.Rounding.answer c.args.rule.now) (ledger_of c.args.self.now) _ c.args.identity c.in-Some.place (c.total.result - c.service_outage.result) _ none here there most c.set_serving.ensures c.remove.ensures.entries
+    (c.in_ok-tolerance.ensures.1 ∙ ap (λ w. removal_tolerance w c.args.self.now.tolerance) c.first_weight.ensures.value)

@@ -1,16 +1,18 @@
-use Rattle.std.proofs.Common.{sym, ap, ◌∙◌}
-use Rattle.std.proofs.lemmas.Bool.{ltb-true, ltb-false}
+use Rattle.std.proofs.Common.{◌≡◌, arith, rules}
+use Rattle.std.specs.Option.{option_map, unwrap_or, option_copied}
+use Rattle.rounding.specs.declared.state.State.{State}
 use Rattle.fleet.specs.States.{outage_of_last}
-use Rattle.fleet.proofs.Lawful.{last_none, last_at}
+use Rattle.fleet.proofs.Lawful.{ruled, last_is}
 use Rattle.fleet.proofs.record.UnitRecord.last_outage.Goals as goal
 
-pub returns-in-Some : goal.returns-in-Some
-returns-in-Some c =
-    let item = c.in-Some.ensures.item in
-    let some = ltb-true _ _ (sym item.0) in
-    rw (← c.states.ensures) (ap (λ s. s.outage) item.1 ∙ sym (last_at c.states.result.now c.in-Some.state.now some))
+told : (c : goal.After-map_or) → c.map_or.result ≡ unwrap_or (option_map (λ (s : State). s.outage) (option_copied c.last.result)) 0
+told c = search rules
 
-pub returns-in-None : goal.returns-in-None
-returns-in-None c =
-    let none = ltb-false _ _ (sym c.in-None.ensures.item.0) in
-    sym (ap outage_of_last (sym c.states.ensures) ∙ last_none c.states.result.now none)
+pub returns-clause-value : goal.returns-clause-value
+returns-clause-value c = rw (last_is c.args.self.now.states.items, ← c.states.ensures, ← c.last.ensures.value) (told c)
+
+pub returns-clause-held : goal.returns-clause-held
+returns-clause-held c =
+    let self = c.args.self.now in
+    let value : c.map_or.result ≡ outage_of_last self.states.items = returns-clause-value c in
+    omega (arith, value, (ruled self.capacity self.states.items self.ruled).held)

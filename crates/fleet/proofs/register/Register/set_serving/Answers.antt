@@ -1,22 +1,28 @@
-use Rattle.std.proofs.Common.{ap, ◌∙◌, arith, length-set}
-use Rattle.fleet.specs.Units.{all_lawful, registered_capacity}
+use Rattle.std.proofs.Common.{◌≡◌, ℕ, ◌<◌, ◌≤◌, Bool, List, map, length, get_or, set, refl, ap, ◌∙◌, arith, length-set}
+use Rattle.arrayvec.specs.ArrayVec.{with_items}
+use Rattle.arrayvec.proofs.ArrayVecLemmas.{items-with_items}
+use Rattle.fleet.specs.Units.{unit_of, registered_capacity}
+use Rattle.fleet.specs.Standing.{standing_as, with_standing}
 use Rattle.fleet.specs.Registers.{units_of}
-use Rattle.fleet.proofs.Registered.{inside}
-use Rattle.fleet.proofs.Standings.{listed_standing, capacity_standing, lawful_standing}
+use Rattle.fleet.specs.declared.record.UnitRecord.{UnitRecord}
+use Rattle.fleet.specs.declared.register.Register.{Register}
+use Rattle.fleet.proofs.Standings.{recorded_standing, capacity_standing}
 use Rattle.fleet.proofs.register.Register.set_serving.Goals as goal
 
-pub offset_bounds-self-place : goal.offset_bounds-self-place
-offset_bounds-self-place c = omega (arith, inside c.args.self.now c.args.place c.requires)
+-- what is written through the slice is what the register then holds
+changed : (self : Register) (shown : List UnitRecord) (place : ℕ) (serving : Bool) (d new : UnitRecord) → shown ≡ self.units.items → place < length (units_of self) → unit_of new ≡ standing_as serving (unit_of (get_or shown place d)) → map unit_of (with_items self.units (set shown place new)).items ≡ with_standing serving place (units_of self)
+changed self shown place serving d new same inside one =
+    ap (map unit_of) (items-with_items self.units _ (length-set shown place _ ∙ ap length same))
+    ∙ recorded_standing shown place serving d new (omega (arith, ap (λ rs. length (map unit_of rs)) same, inside)) one
+    ∙ ap (λ rs. with_standing serving place (map unit_of rs)) same
 
-pub bounds-self-place : goal.bounds-self-place
-bounds-self-place c = omega (arith, inside c.args.self.now c.args.place c.requires)
+held : (self : Register) (shown : List UnitRecord) (place : ℕ) (serving : Bool) (d new : UnitRecord) → shown ≡ self.units.items → place < length (units_of self) → unit_of new ≡ standing_as serving (unit_of (get_or shown place d)) → registered_capacity (map unit_of (with_items self.units (set shown place new)).items) ≤ 1000
+held self shown place serving d new same inside one =
+    let now = changed self shown place serving d new same inside one in
+    omega (arith, ap registered_capacity now, capacity_standing serving place (units_of self) inside, self.capacity)
 
 pub invariant_of-self : goal.invariant_of-self
-invariant_of-self c =
-    let self = c.args.self.now in
-    let changed = listed_standing self.units self.len c.args.place c.args.serving _ (omega (arith, self.places, self.few)) c.requires in record { places = length-set self.units _ _ ∙ self.places; few = self.few; lawful = ap all_lawful changed ∙ lawful_standing c.args.serving c.args.place (units_of self) c.requires self.lawful; capacity = omega (arith, ap registered_capacity changed, capacity_standing c.args.serving c.args.place (units_of self) c.requires, self.capacity) }
+invariant_of-self c = record { capacity = held c.args.self.now c.deref_mut.result.now c.args.place c.args.serving c.index-deref_mut-place.result _ c.deref_mut.ensures.value c.requires refl }
 
 pub returns : goal.returns
-returns c =
-    let self = c.args.self.now in
-    listed_standing self.units self.len c.args.place c.args.serving _ (omega (arith, self.places, self.few)) c.requires
+returns c = changed c.args.self.now c.deref_mut.result.now c.args.place c.args.serving c.index-deref_mut-place.result _ c.deref_mut.ensures.value c.requires refl

@@ -1,19 +1,41 @@
-use Rattle.std.proofs.Common.{◌≤◌, map, ap, ◌∙◌, arith}
-use Rattle.fleet.specs.Units.{unit_of, total}
-use Rattle.fleet.specs.Registers.{units_of}
-use Rattle.fleet.specs.declared.record.Share.{Share}
-use Rattle.fleet.specs.declared.register.Register.{Register}
-use Rattle.fleet.proofs.Listing.{total_le}
+use Rattle.std.proofs.Common.{◌+◌, ◌≤◌, map, take, refl, sym, ap, ◌∙◌, arith, take_all}
+use Rattle.std.specs.Fn.{FnReturnsAt}
+use Rattle.fleet.specs.Units.{unit_of, whole_capacity, registered_capacity, total}
+use Rattle.fleet.proofs.Listing.{total_none, total_next, total_take}
 use Rattle.fleet.proofs.register.Register.total.Goals as goal
 
-most : (which : Share) (self : Register) → total which (units_of self) ≤ 1000
-most which self = omega (arith, total_le which (units_of self) self.lawful, self.capacity)
+returned : (g : _) (c : goal.After-share-sum g) → FnReturnsAt g.F.Fn c.args.share c.unit-item.result c.share-sum.result
+returned g c = record { shown = _; shows = refl; says = record { met = c.share-sum.ensures } }
 
-pub total-requires : goal.total-requires
-total-requires c =
-    omega (arith, most c.args.which c.args.self.now, ap (λ rs. total c.args.which (map unit_of rs)) c.registered.ensures)
+-- one unit more is within its capacity
+held : (g : _) (c : goal.After-share-sum g) → c.loop-unit.sum + c.share-sum.result ≤ registered_capacity (map unit_of (take (c.loop-unit.unit-index + 1) c.registered-unit-items.result.now))
+held g c =
+    let more = total_next whole_capacity c.registered-unit-items.result.now c.loop-unit.unit-index c.unit-item.result c.loop-unit-test.true in
+    let here = ap (λ r. r.capacity) c.unit-item.is in
+    omega (arith, more, here, c.requires.held _ _ (returned g c), c.loop-unit.invariant.held)
+
+pub loop-unit-init : goal.loop-unit-init
+loop-unit-init g c = record { held = omega arith; value = λ counts says. sym (total_none counts) }
+
+pub overflow_add-sum : goal.overflow_add-sum
+overflow_add-sum g c =
+    let self = c.args.self.now in
+    let records = c.registered-unit-items.result.now in
+    omega (arith, held g c, total_take whole_capacity records (c.loop-unit.unit-index + 1), ap registered_capacity c.registered-unit-items.ensures.units, self.capacity)
+
+pub loop-unit-preserved : goal.loop-unit-preserved
+loop-unit-preserved g c = record {
+  held = held g c;
+  value = λ counts says.
+      let more = total_next counts c.registered-unit-items.result.now c.loop-unit.unit-index c.unit-item.result c.loop-unit-test.true in
+      let here = ap (λ r. counts (unit_of r)) c.unit-item.is in
+      omega (arith, more, here, says _ _ (returned g c), c.loop-unit.invariant.value counts says);
+}
 
 pub returns : goal.returns
-returns c =
-    let value = c.total.ensures ∙ ap (λ rs. total c.args.which (map unit_of rs)) c.registered.ensures in
-    record { value = value; bound = omega (arith, value, most c.args.which c.args.self.now) }
+returns g c =
+    let all = ap (map unit_of) (take_all c.loop-unit.unit-index c.registered-unit-items.result.now c.loop-unit-test.false) ∙ c.registered-unit-items.ensures.units in
+    record {
+      value = λ counts says. c.loop-unit.invariant.value counts says ∙ ap (total counts) all;
+      bound = omega (arith, c.loop-unit.invariant.held, ap registered_capacity all, c.args.self.now.capacity);
+    }

@@ -1,0 +1,43 @@
+// A unit put into a table, and one taken out of it.
+ghost use Rattle.std.specs.Prelude.{◌≡◌, ℕ, ◌+◌, ◌<◌, if◌then◌else◌};
+ghost use Rattle.rounding.specs.Table.{Zeros};
+ghost use Rattle.rounding.specs.Adding.{added};
+ghost use Rattle.rounding.specs.Removing.{first_weight, without};
+ghost use Rattle.fleet.specs.States.{outage_of_last};
+ghost use Rattle.fleet.specs.Units.{unit_of, service_outage};
+
+use super::Table;
+use crate::record::UnitRecord;
+use rounding::Rounding;
+
+impl Table {
+    // Adds a unit under the rule.
+    pub(crate) fn add<R: Rounding>(&mut self, rule: &R, unit: &UnitRecord)
+        ensures entries { self.new.entries ≡ added (R.answer rule.now) (unit_of unit.now).states self.old.entries }
+        ensures zeros { (m : ℕ) → Zeros m self.old.entries → Zeros (m + outage_of_last (unit_of unit.now).states) self.new.entries }
+    {
+        rounding::add(rule, unit.states(), &mut self.entries);
+    }
+
+    // Adds a unit if it is in service, and answers how many units that adds.
+    pub(super) fn add_if_serving<R: Rounding>(&mut self, rule: &R, unit: &UnitRecord) -> u32
+        ensures entries { self.new.entries ≡ (if unit.now.serving then added (R.answer rule.now) (unit_of unit.now).states self.old.entries else self.old.entries) }
+        ensures zeros { (m : ℕ) → Zeros m self.old.entries → Zeros (m + service_outage (unit_of unit.now)) self.new.entries }
+        ensures count { result ≡ (if unit.now.serving then 1 else 0) }
+    {
+        if !unit.serving {
+            return 0;
+        }
+        self.add(rule, unit);
+        1
+    }
+
+    // Takes a unit out under the rule. `greatest` is the greatest possible outage without it.
+    pub(crate) fn remove<R: Rounding>(&mut self, rule: &R, unit: &UnitRecord, greatest: u32)
+        requires mostly { 500000 < first_weight (unit_of unit.now).states }
+        ensures entries { self.new.entries ≡ without (R.answer rule.now) (unit_of unit.now).states greatest self.old.entries }
+        ensures zeros { Zeros greatest self.new.entries }
+    {
+        rounding::remove(rule, unit.states(), greatest as usize, &mut self.entries);
+    }
+}
