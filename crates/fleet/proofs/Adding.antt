@@ -1,30 +1,20 @@
 -- What an accepted unit gives, and the ledger with it. Assumes nothing.
-use Rattle.std.proofs.Common.{◌≡◌, ℕ, ◌+◌, ◌≤◌, true, List, [], ◌∷◌, ◌++◌, length, None, sym, ap, ◌∙◌}
-use Rattle.std.proofs.lemmas.List.FromFn.{length-map-range_with_len}
-use Rattle.std.proofs.lemmas.Bool.{not-false, ltb-false}
+use Rattle.std.proofs.Common.{◌≡◌, ℕ, ◌+◌, ◌≤◌, List, [], ◌∷◌, ◌++◌, None, sym, ap, ◌∙◌}
+use Rattle.std.proofs.lemmas.Bool.{ltb-false}
 use Rattle.rounding.specs.Tolerance.{raised}
 use Rattle.rounding.specs.Adding.{added}
 use Rattle.rounding.specs.declared.state.State.{State}
-use Rattle.fleet.specs.States.{lawful, outage_of_last}
+use Rattle.fleet.specs.States.{outage_of_last}
 use Rattle.fleet.specs.Units.{GeneratingUnit, new_unit, service_outage, greatest_outage}
 use Rattle.fleet.specs.Ledger.{Ledger}
 use Rattle.fleet.specs.Limits.{tolerance_refusal}
-use Rattle.fleet.specs.Adding.{identity_refusal, capacity_refusal, unit_refusal, add_refusal, after_add}
-use Rattle.fleet.specs.declared.refusal.Refusal.TheVariants.{States, Tolerance}
-use Rattle.fleet.proofs.Refusing.{accepted, both_accepted, unless_accepted}
+use Rattle.fleet.specs.Adding.{add_refusal, after_add}
+use Rattle.fleet.specs.declared.refusal.Refusal.TheVariants.{Tolerance}
+use Rattle.fleet.proofs.Refusing.{accepted, unless_accepted}
 use Rattle.fleet.proofs.Listing.{total_push}
-
-pub accepted_lawful : (identity capacity : ℕ) (states : List State) → unit_refusal identity capacity states ≡ None → lawful capacity states ≡ true
-accepted_lawful identity capacity states h =
-    let sized = (both_accepted (identity_refusal identity) _ h).1 in
-    not-false (lawful capacity states) (accepted _ States (both_accepted (capacity_refusal capacity) _ sized).1)
 
 pub accepted_tolerance : (tolerance : ℕ) → tolerance_refusal tolerance ≡ None → tolerance ≤ 1000000
 accepted_tolerance tolerance h = ltb-false 1000000 tolerance (accepted _ Tolerance h)
-
-pub length_added : (answer : ℕ → ℕ → ℕ) (states : List State) (old : List ℕ) → length (added answer states old) ≡ length old
-unfolding added
-length_added answer states old = length-map-range_with_len _ 0 (length old)
 
 -- the greatest outage rises by the last outage of the new unit
 pub added_outage : (units new : List GeneratingUnit) (identity capacity : ℕ) (states : List State) → new ≡ units ++ new_unit identity capacity states ∷ [] → greatest_outage new ≡ greatest_outage units + outage_of_last states

@@ -1,6 +1,6 @@
 -- Lists of loads, in steps, one for each day. Assumes nothing.
-use Rattle.std.specs.Prelude.{ℕ, ◌≤◌, min, max, Bool, true, ◌&&◌, List, [], ◌∷◌, map, length, nat_le, slice_index}
-use Rattle.std.specs.List.{range_with_len}
+use Rattle.std.specs.Prelude.{ℕ, ◌≤◌, min, max, Bool, ◌&&◌, List, map, length, nat_le, slice_index}
+use Rattle.std.specs.List.{range_with_len, list_all}
 
 -- the most days that a list may have
 abbrev pub most_days : ℕ
@@ -26,8 +26,7 @@ pub record Bounded (loads : List ℕ) : Type 0 where
 
 -- no load is above the limit
 unfoldable pub all_within_limit : List ℕ → Bool
-all_within_limit [] = true
-all_within_limit (load ∷ loads) = nat_le load limit && all_within_limit loads
+all_within_limit loads = list_all (λ load. nat_le load limit) loads
 
 -- a number of days, held to what a list may have
 abbrev pub held_days : ℕ → ℕ

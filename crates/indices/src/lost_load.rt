@@ -36,7 +36,7 @@ fn loss(fleet: &Fleet, capacity: u32, load: u32) -> (u64, u32)
     ensures tolerance { result.1 ≡ (ledger_of fleet.now).tolerance }
 {
     let Ok((certain, tolerance)) = fleet.entry(0) else {
-        unreachable()
+        unreachable!()
     };
     let Some(place) = loss_place(capacity, load) else {
         return (certain, tolerance);

@@ -16,18 +16,6 @@ pub struct Line {
     low: u32,
 }
 
-// The load of a day: what it has fallen by since the first is rounded down.
-fn load_of(days: u32, high: u32, low: u32, day: u32) -> u32
-    ensures { result ≡ line_load days high low day }
-{
-    if days <= 1 {
-        return high;
-    }
-    let fall = u64::from(high.saturating_sub(low));
-    let fallen = u64::from(day) * fall / u64::from(days - 1);
-    u64::from(high).saturating_sub(fallen) as u32
-}
-
 impl Line {
     // A model of so many days, whose load falls from high to low.
     pub fn new(days: u32, high: u32, low: u32) -> Result<Line, Refusal>
@@ -37,6 +25,18 @@ impl Line {
             return Err(Refusal::Loads);
         }
         Ok(Line { days, high, low })
+    }
+
+    // The load of a day: what it has fallen by since the first is rounded down.
+    fn load_of(&self, day: u32) -> u32
+        ensures { result ≡ line_load self.now.days self.now.high self.now.low day }
+    {
+        if self.days <= 1 {
+            return self.high;
+        }
+        let fall = u64::from(self.high.saturating_sub(self.low));
+        let fallen = u64::from(day) * fall / u64::from(self.days - 1);
+        u64::from(self.high).saturating_sub(fallen) as u32
     }
 }
 
@@ -53,6 +53,6 @@ impl LoadModel for Line {
         if day >= self.days.min(MOST_DAYS) {
             return 0;
         }
-        load_of(self.days, self.high, self.low, day).min(ABOVE_LIMIT)
+        self.load_of(day).min(ABOVE_LIMIT)
     }
 }

@@ -17,12 +17,7 @@ pub struct Peaks<'a> {
 fn within_limit(loads: &[u32]) -> bool
     ensures { result ≡ all_within_limit loads.now }
 {
-    for load in loads {
-        if *load > LOAD_LIMIT {
-            return false;
-        }
-    }
-    true
+    loads.iter().all(|load| *load <= LOAD_LIMIT)
 }
 
 impl<'a> Peaks<'a> {

@@ -23,7 +23,7 @@ returns-in_err-load g c =
 pub overflow_add-sum : goal.overflow_add-sum
 overflow_add-sum g c =
     let few = (g.L.LoadModel.bounded c.args.model.now).few in
-    let small : c.loss-parts.result.0 ≤ full = rw c.loss-parts.ensures.parts (loss_le (ledger_of c.args.fleet.now) c.args.fleet.now.certain c.args.fleet.now.falling _) in
+    let small : c.loss-parts.result.0 ≤ full = rw c.loss-parts.ensures.parts (loss_le (ledger_of c.args.fleet.now) c.args.fleet.now.table.certain c.args.fleet.now.table.falling _) in
     omega arith
 
 pub overflow_add-bound : goal.overflow_add-bound
@@ -41,7 +41,7 @@ loop-day-preserved g c =
     let day = c.loop-day.day in
     let inside : day < length loads = omega arith in
     let told = c.in_ok-load.ensures in
-    let small : c.loss-parts.result.0 ≤ full = rw c.loss-parts.ensures.parts (loss_le (ledger_of c.args.fleet.now) c.args.fleet.now.certain c.args.fleet.now.falling _) in
+    let small : c.loss-parts.result.0 ≤ full = rw c.loss-parts.ensures.parts (loss_le (ledger_of c.args.fleet.now) c.args.fleet.now.table.certain c.args.fleet.now.table.falling _) in
     let here = ltb-false limit (get_or loads day 0) (accepted _ AboveLimit told.0) in
     let more = lost_more (ledger_of fleet) loads day inside in (
       rw (c.loop-day.invariant.0, c.loss-parts.ensures.parts, told.1) (sym more),

@@ -1,6 +1,6 @@
-use Rattle.std.proofs.Common.{◌+◌, ◌≤◌, map, take, refl, sym, ap, ◌∙◌, arith, take_all}
+use Rattle.std.proofs.Common.{◌+◌, ◌≤◌, map, take, refl, sym, ap, arith}
 use Rattle.std.specs.Fn.{FnReturnsAt}
-use Rattle.fleet.specs.Units.{unit_of, whole_capacity, registered_capacity, total}
+use Rattle.fleet.specs.Units.{unit_of, whole_capacity, registered_capacity}
 use Rattle.fleet.proofs.Listing.{total_none, total_next, total_take}
 use Rattle.fleet.proofs.register.Register.total.Goals as goal
 
@@ -31,11 +31,3 @@ loop-unit-preserved g c = record {
       let here = ap (λ r. counts (unit_of r)) c.unit-item.is in
       omega (arith, more, here, says _ _ (returned g c), c.loop-unit.invariant.value counts says);
 }
-
-pub returns : goal.returns
-returns g c =
-    let all = ap (map unit_of) (take_all c.loop-unit.unit-index c.registered-unit-items.result.now c.loop-unit-test.false) ∙ c.registered-unit-items.ensures.units in
-    record {
-      value = λ counts says. c.loop-unit.invariant.value counts says ∙ ap (total counts) all;
-      bound = omega (arith, c.loop-unit.invariant.held, ap registered_capacity all, c.args.self.now.capacity);
-    }

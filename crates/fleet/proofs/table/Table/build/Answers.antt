@@ -1,6 +1,5 @@
-use Rattle.std.proofs.Common.{◌≤◌, map, sym, ap, subst, arith, take_all}
-use Rattle.fleet.specs.Units.{unit_of}
-use Rattle.fleet.proofs.Building.{Built, built_none, built_more, built_few, one_most}
+use Rattle.std.proofs.Common.{◌≤◌, sym, subst, arith}
+use Rattle.fleet.proofs.Building.{built_none, built_more, built_few, one_most}
 use Rattle.fleet.proofs.table.Table.build.Goals as goal
 
 pub loop-unit-init : goal.loop-unit-init
@@ -16,10 +15,3 @@ pub loop-unit-preserved : goal.loop-unit-preserved
 loop-unit-preserved g c =
     let told = c.add_if_serving-count.ensures in
     built_more _ c.args.units.now c.loop-unit.unit-index c.unit-item.result c.unit-item.result c.loop-unit.self.entries _ c.loop-unit.count _ c.loop-unit-test.true c.unit-item.is c.loop-unit.invariant told.entries told.zeros told.count
-
-pub returns : goal.returns
-returns g c =
-    let units = c.args.units.now in
-    let whole = ap (map unit_of) (take_all c.loop-unit.unit-index units c.loop-unit-test.false) in
-    let built = subst (λ us. Built (g.R.Rounding.answer c.args.rule.now) us c.loop-unit.self.entries c.loop-unit.count) whole c.loop-unit.invariant in
-    record { entries = built.entries; zeros = built.zeros; count = built.counted }

@@ -1,9 +1,9 @@
-use Rattle.std.proofs.Common.{sym, arith}
-use Rattle.indices.proofs.Loading.{within_all, within_not}
+use Rattle.std.proofs.Common.{nat_le, rules, tests}
+use Rattle.std.proofs.lemmas.Iterator.{YieldsList-from_slice}
+use Rattle.std.proofs.lemmas.Iterator.Search.{all_from_yields_List}
+use Rattle.indices.specs.Loads.{limit, all_within_limit}
 use Rattle.indices.proofs.loads.peaks.within_limit.Goals as goal
 
-pub returns-then-load-gt-LOAD_LIMIT : goal.returns-then-load-gt-LOAD_LIMIT
-returns-then-load-gt-LOAD_LIMIT c = sym (within_not c.args.loads.now c.loop-load.load-index c.loop-load-test.true c.if-load-gt-LOAD_LIMIT.true)
-
 pub returns : goal.returns
-returns c = sym (within_all c.args.loads.now (λ day h. c.loop-load.invariant day (omega (arith, c.loop-load-test.false))))
+unfolding all_within_limit
+returns c = all_from_yields_List (λ load. nat_le load limit) _ _ _ c.all.ensures.ran (YieldsList-from_slice c.args.loads.now cc) (λ x b q k. search (rules, tests))
