@@ -1,6 +1,7 @@
 // Rounding rules, and the recursion that adds a unit to a capacity outage table, with its reverse.
 #![tactic(auto)]
 
+mod place;
 mod removal;
 mod rule;
 mod rules;

@@ -5,9 +5,10 @@ ghost use Rattle.rounding.specs.Mixture.{million, weights, amount as amount_of, 
 ghost use Rattle.rounding.specs.Tolerance.{removal_tolerance};
 ghost use Rattle.rounding.specs.Removing.{Starting, first_weight, entry_without, without, Tail};
 
+use crate::place::Place;
 use crate::rule::Rounding;
 use crate::state::State;
-use crate::table::{MILLION, amount, entry_before};
+use crate::table::MILLION;
 
 // The entry at k without the unit. The entries below k are those without it already; rounding may
 // not make one rise above the one before.
@@ -16,22 +17,19 @@ fn entry_without<R: Rounding>(
     first: &State,
     rest: &[State],
     greatest: usize,
-    entries: &[u64],
-    k: usize,
+    place: &Place,
 ) -> u64
-    requires within { k < length entries.now }
-    requires shares { weights rest.now ≤ million }
-    requires entries_fit { (i : ℕ) → slice_index entries.now i ≤ full }
-    ensures { result ≡ entry_without (R.answer rule.now) first.now rest.now greatest entries.now entries.now k }
+    requires { weights rest.now ≤ million }
+    ensures { result ≡ entry_without (R.answer rule.now) first.now rest.now greatest place.now.entries.now place.now.entries.now place.now.k }
 {
-    if k > greatest {
+    if place.k > greatest {
         return 0;
     }
     // what the states after the first leave of a million times the entry; at least 0
-    let whole = u64::from(MILLION) * entries[k];
-    let left = whole.saturating_sub(amount(rest, entries, k));
+    let whole = u64::from(MILLION) * place.entry_before(0);
+    let left = whole.saturating_sub(place.amount(rest));
     let told = rule.round(left, first.weight);
-    told.min(entry_before(entries, k, 1))
+    told.min(place.entry_before(1))
 }
 
 // Takes a unit with these states out of the table, in place: from place 0 up, since an entry needs
@@ -52,6 +50,7 @@ pub fn remove<R: Rounding>(rule: &R, states: &[State], greatest: usize, entries:
         return;
     };
     for k in 0..entries.len() {
-        entries[k] = entry_without(rule, first, rest, greatest, entries, k);
+        let place = Place { entries, k };
+        entries[k] = entry_without(rule, first, rest, greatest, &place);
     }
 }

@@ -20,14 +20,13 @@ asks g c =
     let p = c.requires in
     asked_of c.args.states.now _ _ (states_apart c.args.states.now nothing (search rules)) p.shares p.starting p.mostly
 
+pub invariant_of-place : goal.invariant_of-place
+invariant_of-place g c =
+    let of = asks g (goal.at.invariant_of-place g c).In-len1-up in
+    record { within = omega arith; fit = partly_le _ _ _ of.later _ _ _ _ c.requires.certain c.requires.falling c.loop-k.invariant }
+
 pub entry_without-requires : goal.entry_without-requires
-entry_without-requires g c =
-    let of = asks g (goal.at.entry_without-requires g c).In-len1-up in
-    record {
-      within = omega arith;
-      shares = omega (arith, of.shares);
-      entries_fit = partly_le _ _ _ of.later _ _ _ _ c.requires.certain c.requires.falling c.loop-k.invariant;
-    }
+entry_without-requires g c = let of = asks g (goal.at.entry_without-requires g c).In-len1-up in omega (arith, of.shares)
 
 pub loop-k-preserved : goal.loop-k-preserved
 loop-k-preserved g c =

@@ -2,11 +2,10 @@ use Rattle.std.proofs.Common.{◌≡◌, ◌+◌, ◌-◌, subst, arith}
 use Rattle.rounding.proofs.Recursion.{Partly, Added, partly_le, partly_more, added_is, added_certain, added_falling, added_zeros, added_within}
 use Rattle.rounding.proofs.table.add.Goals as goal
 
-pub amount-requires : goal.amount-requires
-amount-requires g c = record {
+pub invariant_of-place : goal.invariant_of-place
+invariant_of-place g c = record {
   within = omega arith;
-  shares = omega arith;
-  entries_fit = partly_le _ (g.met.R.Rounding.close c.args.rule.now) (g.met.R.Rounding.rising c.args.rule.now) _ c.requires.shares _ c.requires.certain c.requires.falling _ _ c.loop-k.invariant;
+  fit = partly_le _ (g.met.R.Rounding.close c.args.rule.now) (g.met.R.Rounding.rising c.args.rule.now) _ c.requires.shares _ c.requires.certain c.requires.falling _ _ c.loop-k.invariant;
 }
 
 pub loop-k-preserved : goal.loop-k-preserved

@@ -1,6 +1,0 @@
-use Rattle.std.proofs.Common.{◌≡◌, take}
-use Rattle.rounding.specs.Mixture.{amount}
-use Rattle.rounding.proofs.table.amount.Given as goal
-
-abbrev pub invariant-loop-state : goal.invariant-loop-state
-invariant-loop-state l = l.sum ≡ amount (take l.state-index l.states) l.entries l.k
