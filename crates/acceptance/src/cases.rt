@@ -2,7 +2,7 @@
 ghost use Rattle.std.specs.Prelude.{◌≤◌};
 
 use fleet::{Fleet, Refusal};
-use rounding::{FULL, Nearest, State};
+use rounding::{FULL, Nearest, Rounding, State};
 use std::process::Abort;
 use std::test::Fail;
 
@@ -40,8 +40,8 @@ pub const FIVE: [State; 3] = [
     },
 ];
 
-// In service with the weight that is left by an outage of one step.
-pub(crate) fn one_step(outage_weight: u32) -> [State; 2]
+// In service with the weight that an outage of so many steps leaves.
+pub(crate) fn out_by(outage: u32, outage_weight: u32) -> [State; 2]
     requires { outage_weight ≤ 1000000 }
 {
     [
@@ -50,10 +50,17 @@ pub(crate) fn one_step(outage_weight: u32) -> [State; 2]
             weight: 1_000_000 - outage_weight,
         },
         State {
-            outage: 1,
+            outage,
             weight: outage_weight,
         },
     ]
+}
+
+// The same for one step.
+pub(crate) fn one_step(outage_weight: u32) -> [State; 2]
+    requires { outage_weight ≤ 1000000 }
+{
+    out_by(1, outage_weight)
 }
 
 // The number with which a call is refused, or 0 where it is not.
@@ -93,6 +100,23 @@ pub(crate) fn two_units(rt: &impl Abort) -> Result<Fleet, Fail> {
     let mut fleet = Fleet::open();
     assert_eq!(rt; fleet.add(&Nearest, 1, 3, &THREE)?, 1);
     assert_eq!(rt; fleet.add(&Nearest, 2, 3, &THREE)?, 2);
+    Ok(fleet)
+}
+
+// A fleet with those two and a unit of capacity 5.
+pub(crate) fn three_units(rt: &impl Abort) -> Result<Fleet, Fail> {
+    let mut fleet = two_units(rt)?;
+    assert_eq!(rt; fleet.add(&Nearest, 3, 5, &FIVE)?, 3);
+    Ok(fleet)
+}
+
+// Three units of capacity 1 that are out with weight 1, so that every rounding shows.
+pub(crate) fn rare_units<R: Rounding>(rt: &impl Abort, rule: &R) -> Result<Fleet, Fail> {
+    let rare = one_step(1);
+    let mut fleet = Fleet::open();
+    assert_eq!(rt; fleet.add(rule, 1, 1, &rare)?, 1);
+    assert_eq!(rt; fleet.add(rule, 2, 1, &rare)?, 2);
+    assert_eq!(rt; fleet.add(rule, 3, 1, &rare)?, 3);
     Ok(fleet)
 }
 

@@ -1,5 +1,5 @@
 // The expected days of lost load.
-use crate::cases::{FIVE, SURE, number, one_step, two_units};
+use crate::cases::{SURE, number, one_step, three_units, two_units};
 use crate::maintenance::eight_units;
 use fleet::Fleet;
 use indices::{Growth, Line, Peaks, days};
@@ -51,8 +51,7 @@ fn a_fleet_of_the_greatest_capacity(rt: HostRuntime) -> Result<(), Fail> {
 
 #[test]
 fn capacity_under_maintenance_is_no_reserve(rt: HostRuntime) -> Result<(), Fail> {
-    let mut fleet = two_units(&rt)?;
-    assert_eq!(rt; fleet.add(&Nearest, 3, 5, &FIVE)?, 3);
+    let mut fleet = three_units(&rt)?;
     assert_eq!(rt; lost(&fleet, &[6, 4, 3])?, (967_600_000, 9));
     assert_eq!(rt; fleet.withdraw(&Nearest, 3)?, 5);
     assert_eq!(rt; lost(&fleet, &[6, 4, 3])?, (79_600_000_000, 15));

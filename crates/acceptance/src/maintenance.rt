@@ -1,7 +1,9 @@
 // Units that go out for maintenance, come back and are retired.
 ghost use Rattle.std.specs.Prelude.{◌≤◌};
 
-use crate::cases::{FIVE, SURE, THREE, check_entries, check_two_units, one_step};
+use crate::cases::{
+    FIVE, SURE, check_entries, check_two_units, one_step, rare_units, three_units,
+};
 use fleet::Fleet;
 use rounding::{Down, FULL, Nearest, Rounding, State, Up};
 use std::process::Abort;
@@ -9,10 +11,7 @@ use std::test::Fail;
 
 #[test]
 fn a_withdrawal_undoes_an_add(rt: HostRuntime) -> Result<(), Fail> {
-    let mut fleet = Fleet::open();
-    assert_eq!(rt; fleet.add(&Nearest, 1, 3, &THREE)?, 1);
-    assert_eq!(rt; fleet.add(&Nearest, 2, 3, &THREE)?, 2);
-    assert_eq!(rt; fleet.add(&Nearest, 3, 5, &FIVE)?, 3);
+    let mut fleet = three_units(&rt)?;
     assert_eq!(rt; fleet.withdraw(&Nearest, 3)?, 5);
     check_two_units(&rt, &fleet, 5)?;
     assert_eq!(rt; fleet.unit(1), Some((3, 1)));
@@ -21,13 +20,9 @@ fn a_withdrawal_undoes_an_add(rt: HostRuntime) -> Result<(), Fail> {
     check_two_units(&rt, &fleet, 2)
 }
 
-// Three units of capacity 1 that are out with weight 1, one of them withdrawn and returned.
-fn rare_units<R: Rounding>(rt: &impl Abort, rule: &R) -> Result<Fleet, Fail> {
-    let rare = one_step(1);
-    let mut fleet = Fleet::open();
-    assert_eq!(rt; fleet.add(rule, 1, 1, &rare)?, 1);
-    assert_eq!(rt; fleet.add(rule, 2, 1, &rare)?, 2);
-    assert_eq!(rt; fleet.add(rule, 3, 1, &rare)?, 3);
+// Three units with rare outages, one of them withdrawn.
+fn two_of_three<R: Rounding>(rt: &impl Abort, rule: &R) -> Result<Fleet, Fail> {
+    let mut fleet = rare_units(rt, rule)?;
     assert_eq!(rt; fleet.withdraw(rule, 2)?, 5);
     assert_eq!(rt; fleet.capacity(), 2);
     Ok(fleet)
@@ -35,7 +30,7 @@ fn rare_units<R: Rounding>(rt: &impl Abort, rule: &R) -> Result<Fleet, Fail> {
 
 #[test]
 fn a_withdrawal_down(rt: HostRuntime) -> Result<(), Fail> {
-    let mut fleet = rare_units(&rt, &Down)?;
+    let mut fleet = two_of_three(&rt, &Down)?;
     check_entries(&rt, &fleet, 5, &[(1, 1_999_998), (2, 0), (3, 0)])?;
     assert_eq!(rt; fleet.return_unit(&Down, 2)?, 6);
     assert_eq!(rt; fleet.entry(1)?, (2_999_996, 6));
@@ -45,7 +40,7 @@ fn a_withdrawal_down(rt: HostRuntime) -> Result<(), Fail> {
 
 #[test]
 fn a_withdrawal_up(rt: HostRuntime) -> Result<(), Fail> {
-    let mut fleet = rare_units(&rt, &Up)?;
+    let mut fleet = two_of_three(&rt, &Up)?;
     check_entries(&rt, &fleet, 5, &[(1, 2_000_000), (2, 2), (3, 0)])?;
     assert_eq!(rt; fleet.return_unit(&Up, 2)?, 6);
     assert_eq!(rt; fleet.entry(2)?, (4, 6));
@@ -55,7 +50,7 @@ fn a_withdrawal_up(rt: HostRuntime) -> Result<(), Fail> {
 
 #[test]
 fn a_withdrawal_to_the_nearest(rt: HostRuntime) -> Result<(), Fail> {
-    let mut fleet = rare_units(&rt, &Nearest)?;
+    let mut fleet = two_of_three(&rt, &Nearest)?;
     check_entries(&rt, &fleet, 5, &[(1, 1_999_999), (2, 1), (3, 0)])?;
     assert_eq!(rt; fleet.return_unit(&Nearest, 2)?, 6);
     assert_eq!(rt; fleet.unit(2), Some((1, 1)));

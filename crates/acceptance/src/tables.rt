@@ -1,7 +1,7 @@
 // Tables that can be recomputed by hand.
-use crate::cases::{FIVE, THREE, check_entries, check_two_units};
+use crate::cases::{check_entries, check_two_units, rare_units, three_units, two_units};
 use fleet::Fleet;
-use rounding::{Down, FULL, Nearest, Rounding, State, Up};
+use rounding::{Down, FULL, Nearest, Rounding, Up};
 use std::process::Abort;
 use std::test::Fail;
 
@@ -16,18 +16,13 @@ fn an_open_fleet_has_nothing_out(rt: HostRuntime) -> Result<(), Fail> {
 
 #[test]
 fn two_units_of_three(rt: HostRuntime) -> Result<(), Fail> {
-    let mut fleet = Fleet::open();
-    assert_eq!(rt; fleet.add(&Nearest, 1, 3, &THREE)?, 1);
-    assert_eq!(rt; fleet.add(&Nearest, 2, 3, &THREE)?, 2);
+    let fleet = two_units(&rt)?;
     check_two_units(&rt, &fleet, 2)
 }
 
 #[test]
 fn a_unit_with_a_partial_outage(rt: HostRuntime) -> Result<(), Fail> {
-    let mut fleet = Fleet::open();
-    assert_eq!(rt; fleet.add(&Nearest, 1, 3, &THREE)?, 1);
-    assert_eq!(rt; fleet.add(&Nearest, 2, 3, &THREE)?, 2);
-    assert_eq!(rt; fleet.add(&Nearest, 3, 5, &FIVE)?, 3);
+    let fleet = three_units(&rt)?;
     check_entries(
         &rt,
         &fleet,
@@ -49,7 +44,7 @@ fn a_unit_with_a_partial_outage(rt: HostRuntime) -> Result<(), Fail> {
     Ok(())
 }
 
-// Three units of capacity 1 that are out with weight 1, so that every rounding shows.
+// The entries of three rare outages.
 fn rare_outages<R: Rounding>(
     rt: &impl Abort,
     rule: &R,
@@ -57,20 +52,7 @@ fn rare_outages<R: Rounding>(
     two: u64,
     three: u64,
 ) -> Result<(), Fail> {
-    let states = [
-        State {
-            outage: 0,
-            weight: 999_999,
-        },
-        State {
-            outage: 1,
-            weight: 1,
-        },
-    ];
-    let mut fleet = Fleet::open();
-    assert_eq!(rt; fleet.add(rule, 1, 1, &states)?, 1);
-    assert_eq!(rt; fleet.add(rule, 2, 1, &states)?, 2);
-    assert_eq!(rt; fleet.add(rule, 3, 1, &states)?, 3);
+    let fleet = rare_units(rt, rule)?;
     check_entries(
         rt,
         &fleet,

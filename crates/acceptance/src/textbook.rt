@@ -1,23 +1,19 @@
 // Figures that Billinton and Allan print in "Reliability Evaluation of Power Systems", second edition.
+ghost use Rattle.std.specs.Prelude.{◌≤◌};
+
+use crate::cases::out_by;
 use fleet::Fleet;
 use indices::{Line, Peaks, days};
-use rounding::{Nearest, State};
+use rounding::Nearest;
+use std::array;
 use std::process::Abort;
 use std::test::Fail;
 
 // A unit of two states, a step being a megawatt.
-fn add_unit(fleet: &mut Fleet, identity: u32, megawatts: u32, rate: u32) -> Result<u32, Fail> {
-    let states = [
-        State {
-            outage: 0,
-            weight: 1_000_000u32.saturating_sub(rate),
-        },
-        State {
-            outage: megawatts,
-            weight: rate,
-        },
-    ];
-    Ok(fleet.add(&Nearest, identity, megawatts, &states)?)
+fn add_unit(fleet: &mut Fleet, identity: u32, megawatts: u32, rate: u32) -> Result<u32, Fail>
+    requires { rate ≤ 1000000 }
+{
+    Ok(fleet.add(&Nearest, identity, megawatts, &out_by(megawatts, rate))?)
 }
 
 fn five_units(rt: &impl Abort) -> Result<Fleet, Fail> {
@@ -90,10 +86,7 @@ fn daily_peak(day: usize) -> u32 {
 // not. Available are 100, 75, 50, 25 or 0 MW, and no peak is one of these, so both must say the same.
 #[test]
 fn a_year_of_a_hundred_megawatts(rt: HostRuntime) -> Result<(), Fail> {
-    let mut loads = [0; 365];
-    for (day, load) in loads.iter_mut().enumerate() {
-        *load = daily_peak(day);
-    }
+    let loads: [u32; 365] = array::from_fn(daily_peak);
     let fleet = hundred_megawatts(&rt)?;
     assert_eq!(rt;
         days(&fleet, &Peaks::new(&loads)?)?,

@@ -22,7 +22,7 @@ fn print_table(rt: &HostRuntime, fleet: &Fleet) -> io::Result<()> {
     println!(rt; "k,entry,tolerance")?;
     for k in 0..=fleet.greatest_outage() {
         let Ok((parts, tolerance)) = fleet.entry(k) else {
-            unreachable()
+            unreachable!()
         };
         println!(rt; "{k},{parts},{tolerance}")?;
     }
