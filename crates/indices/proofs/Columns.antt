@@ -1,7 +1,11 @@
 -- Laws of columns: equal or not, among others or not, and no more than five apart. Assumes nothing.
-use Rattle.std.proofs.Common.{◌≡◌, ℕ, ◌+◌, ◌<◌, ◌≤◌, true, false, cond, ◌||◌, eqb, List, [], ◌∷◌, ◌++◌, length, get_or, drop, sym, refl, ap, ◌∙◌, ⊎_elim, arith}
-use Rattle.std.proofs.lemmas.List.{at_drop_more, length_push}
-use Rattle.std.proofs.lemmas.Bool.{both_ways, eqb-true, ne_eqb, eq-eqb, cases_Bool, or_parts, or_left, and_parts, and_from}
+use Rattle.std.proofs.Common.{◌≡◌, ℕ, ◌+◌, ◌<◌, ◌≤◌, true, false, cond, ◌||◌, eqb, List, [], ◌∷◌, ◌++◌, length, sym, refl, ap, ◌∙◌, ⊎_elim, arith}
+use denote.Enum.Bare.{sameb}
+use denote.Enum.Declared.{tag_of}
+use Rattle.std.specs.List.{list_any}
+use Rattle.std.proofs.lemmas.List.{length_push}
+use Rattle.std.proofs.lemmas.Bool.{both_ways, eqb-true, ne_eqb, eq-eqb, cases_Bool, or_parts, and_parts, and_from}
+use Rattle.indices.specs.contracts.names.Column.{the_type}
 use Rattle.indices.specs.declared.names.Column.{Column}
 use Rattle.indices.specs.declared.names.Column.TheVariants.{Id, Cap, Rate, Part, Prate}
 use Rattle.indices.specs.Names.{index, same, among, all}
@@ -27,17 +31,25 @@ pub same_not : (c d : Column) → (c ≡ d → ⊥) → same c d ≡ false
 same_not c d h =
     ne_eqb (index c) (index d) (λ e. h (equal_from_same c d (eq-eqb (index c) (index d) e)))
 
--- a column that is c settles it, and any other leaves it to those behind
-pub among_here : (c : Column) (ds : List Column) (i : ℕ) (z : Column) → i < length ds → c ≡ get_or ds i z → among c (drop i ds) ≡ true
-among_here c ds i z h e = at_drop_more (among c) ds i z h ∙ or_left _ _ (same_from_equal c (get_or ds i z) e)
+tag_is : (c : Column) → tag_of the_type c ≡ index c
+tag_is Id = refl
+tag_is Cap = refl
+tag_is Rate = refl
+tag_is Part = refl
+tag_is Prate = refl
 
-pub among_on : (c : Column) (ds : List Column) (i : ℕ) (z : Column) → i < length ds → (c ≡ get_or ds i z → ⊥) → among c (drop i ds) ≡ among c (drop (i + 1) ds)
-among_on c ds i z h e =
-    at_drop_more (among c) ds i z h ∙ ap (λ t. t || among c (drop (i + 1) ds)) (same_not c (get_or ds i z) e)
+-- what `==` says of columns
+pub sameb_is : (c d : Column) → sameb the_type c d ≡ same c d
+sameb_is c d = (λ i. eqb (tag_is c i) (tag_is d i))
+
+-- what `contains` says of columns
+pub among_is : (c : Column) (ds : List Column) → list_any (λ d. sameb the_type d c) ds ≡ among c ds
+among_is c [] = refl
+among_is c (d ∷ ds) = (λ i. sameb_is d c i || among_is c ds i)
 
 abbrev count : Column → List Column → ℕ
 count c [] = 0
-count c (d ∷ ds) = cond (same c d) 1 0 + count c ds
+count c (d ∷ ds) = cond (same d c) 1 0 + count c ds
 
 -- each column stands at most once
 abbrev pub Once : List Column → Type 0
@@ -53,14 +65,14 @@ counts (Prate ∷ cs) = omega (arith, counts cs)
 
 count_none : (c : Column) (cs : List Column) → among c cs ≡ false → count c cs ≡ 0
 count_none c [] h = refl
-count_none c (d ∷ ds) h = let p = or_parts (same c d) (among c ds) h in rw p.0 (omega (arith, count_none c ds p.1))
+count_none c (d ∷ ds) h = let p = or_parts (same d c) (among c ds) h in rw p.0 (omega (arith, count_none c ds p.1))
 
 count_some : (c : Column) (cs : List Column) → among c cs ≡ true → 1 ≤ count c cs
 count_some c [] h = absurd (both_ways false refl h)
 count_some c (d ∷ ds) h =
-    ⊎_elim (λ e. rw e (omega arith)) (λ e. omega (arith, count_some c ds (ap (λ t. t || among c ds) (sym e) ∙ h))) (cases_Bool (same c d))
+    ⊎_elim (λ e. rw e (omega arith)) (λ e. omega (arith, count_some c ds (ap (λ t. t || among c ds) (sym e) ∙ h))) (cases_Bool (same d c))
 
-count_push : (c d : Column) (cs : List Column) → count c (cs ++ (d ∷ [])) ≡ count c cs + cond (same c d) 1 0
+count_push : (c d : Column) (cs : List Column) → count c (cs ++ (d ∷ [])) ≡ count c cs + cond (same d c) 1 0
 count_push c d [] = omega arith
 count_push c d (e ∷ cs) = omega (arith, count_push c d cs)
 
@@ -71,9 +83,9 @@ pub once_push : (cs : List Column) (c : Column) → Once cs → among c cs ≡ f
 once_push cs c once new d =
     rw (count_push d c cs)
     (⊎_elim
-    (λ e. rw e (omega (arith, count_none c cs new, ap (λ x. count x cs) (equal_from_same d c e))))
+    (λ e. rw e (omega (arith, count_none c cs new, ap (λ x. count x cs) (equal_from_same c d e))))
     (λ e. rw e (omega (arith, once d)))
-    (cases_Bool (same d c)))
+    (cases_Bool (same c d)))
 
 pub five_at_most : (cs : List Column) → Once cs → length cs ≤ 5
 five_at_most cs once = omega (arith, counts cs, once Id, once Cap, once Rate, once Part, once Prate)

@@ -5,6 +5,7 @@ use Rattle.std.proofs.lemmas.Bool.{both_ways, lt-ltb, le-ltb, and_left, and_righ
 use Rattle.indices.specs.declared.fault.Reason.TheVariants.{NoLineFeed}
 use Rattle.indices.specs.declared.text.Reader.{Reader}
 use Rattle.indices.specs.Byte.{kind}
+use Rattle.indices.specs.Fault.{fault_of_line}
 use Rattle.indices.specs.Text.{Line, with_field, lines, complete, feed}
 use Rattle.indices.specs.End.{blank}
 use Rattle.indices.specs.Reader.{unread, AtStart, Ready, FieldRead, LineEnded, Last}
@@ -56,7 +57,7 @@ sheet_ends r unended later none = record {
   is = rw (lt-ltb 1 r.line later) refl;
 }
 
-pub unfed : (r : Reader) → r.ended ≡ false → complete (lines r.rest.now) ≡ false → (r.line ≤ 1) ⊎ (0 < length r.rest.now) → Last r.line (unread r) (Some (record { reason = NoLineFeed; line = r.line; field = 0 }))
+pub unfed : (r : Reader) → r.ended ≡ false → complete (lines r.rest.now) ≡ false → (r.line ≤ 1) ⊎ (0 < length r.rest.now) → Last r.line (unread r) (Some (fault_of_line NoLineFeed r.line))
 unfed r unended short why =
     let b = lines_begun r.rest.now in
     let l : Line = b.field ∷ b.fields in

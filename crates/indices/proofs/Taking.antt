@@ -1,5 +1,5 @@
 -- Rows taken into a ledger one by one. Assumes nothing.
-use Rattle.std.proofs.Common.{◌≡◌, ℕ, ◌+◌, ◌≤◌, List, [], ◌∷◌, ◌++◌, length, Some, None, Option, sym, refl, ap, ◌∙◌, subst, arith}
+use Rattle.std.proofs.Common.{◌≡◌, ℕ, ◌+◌, ◌≤◌, List, [], ◌∷◌, ◌++◌, length, Some, None, Option, sym, refl, ap, ◌∙◌, arith}
 use Rattle.std.specs.Option.{option_map}
 use Rattle.std.proofs.lemmas.List.{length_push}
 use Rattle.rounding.specs.Tolerance.{raised}
@@ -104,17 +104,6 @@ pub record Going (answer : ℕ → ℕ → ℕ) (start : Rows) (l₀ : Ledger) (
 
 pub took : (i : Intake) (l : Ledger) (n : ℕ) (fault : Option Report) → left l n fault ≡ i → Took i l n fault
 took i l n fault h = record { ledger_is = ap (λ j. j.ledger) h; added_is = ap (λ j. j.added) h; fault_is = ap (λ j. j.fault) h }
-
--- what `next_row` tells of its answer
-abbrev pub Next : Rows → Rows → Option Row → Type 0
-Next was is (Some row) = RowRead was row is
-Next was is None = remaining was ≡ no_rows None
-
-pub some_row : (was is : Rows) (o : Option Row) (row : Row) → o ≡ Some row → Next was is o → RowRead was row is
-some_row was is o row h next = subst (Next was is) h next
-
-pub no_row : (was is : Rows) (o : Option Row) → o ≡ None → Next was is o → remaining was ≡ no_rows None
-no_row was is o h next = subst (Next was is) h next
 
 -- nothing is taken of a sheet that has no rows
 pub took_rowless : (answer : ℕ → ℕ → ℕ) (s : Sheet) (fault : Option Fault) (l : Ledger) (n : ℕ) → n ≡ 0 → s ≡ no_rows fault → Took (taken_sheet answer s l 0) l n (option_map report fault)

@@ -42,7 +42,7 @@ pub record Last (line : ℕ) (ls : List Line) (fault : Option Fault) : Type 0 wh
   pub is : final line last ≡ fault
 
 abbrev pub Reads : Reader → Result Token Fault → Reader → Type 0
-Reads was (Ok (Field bytes line place)) is = FieldRead was bytes.now line place is
+Reads was (Ok (Field field)) is = FieldRead was field.bytes.now field.line field.place is
 Reads was (Ok LineEnd) is = LineEnded was is
 Reads was (Ok SheetEnd) is = Last was.line (unread was) None
 Reads was (Err fault) is = Last was.line (unread was) (Some fault)

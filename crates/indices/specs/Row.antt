@@ -1,5 +1,5 @@
 -- A row of a sheet, and the states of the unit that it describes. Assumes nothing.
-use Rattle.std.specs.Prelude.{ℕ, ◌+◌, ◌-◌, Bool, cond, not, ◌&&◌, List, [], ◌∷◌, ◌++◌, ◌==◌, nat_le}
+use Rattle.std.specs.Prelude.{ℕ, ◌+◌, ◌-◌, Bool, cond, not, ◌&&◌, List, [], ◌∷◌, ◌++◌, Some, None, ◌==◌, nat_le, position, slice_index}
 use Rattle.rounding.specs.Mixture.{million}
 use Rattle.rounding.specs.declared.state.State.{State}
 use Rattle.indices.specs.declared.names.Column.{Column}
@@ -9,9 +9,7 @@ use Rattle.indices.specs.Names.{same}
 
 -- the value that stands in the place of a column
 abbrev pub under : Column → List Column → List ℕ → ℕ
-under c [] vs = 0
-under c (d ∷ ds) [] = 0
-under c (d ∷ ds) (v ∷ vs) = cond (same c d) v (under c ds vs)
+under c order vs = elim (position (λ d. same d c) order) [ None ↦ 0 | Some place ↦ slice_index vs place ]
 
 -- the row that a line's values give
 abbrev pub row_of : List Column → ℕ → List ℕ → Row

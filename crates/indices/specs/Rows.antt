@@ -1,6 +1,6 @@
 -- What the readers of whole lines promise, and what is left of a sheet. Assumes nothing.
-use Rattle.std.specs.Prelude.{◌≡◌, ◌+◌, ◌<◌, ◌≤◌, List, ◌∷◌, map, length, Some, None, Option}
-use Rattle.indices.specs.declared.line.Values.{Values}
+use Rattle.std.specs.Prelude.{◌≡◌, ℕ, ◌+◌, ◌<◌, ◌≤◌, List, ◌∷◌, map, length, take, Some, None, Option}
+use Rattle.arrayvec.specs.ArrayVec.{ArrayVec}
 use Rattle.indices.specs.declared.names.Column.{Column}
 use Rattle.indices.specs.declared.row.Row.{Row}
 use Rattle.indices.specs.declared.sheet.Rows.{Rows}
@@ -17,20 +17,19 @@ pub record NamesRead (was : Reader) (columns : List Column) (is : Reader) : Type
   pub start : AtStart is
   pub line : is.line ≡ 2
 
--- each field of a line is a value, and the lines below it are left; of five values each is kept
-pub record ValuesRead (was : Reader) (values : Values) (is : Reader) : Type 0 where
+-- each field of a line is a value, and the lines below it are left; six values are enough to tell that a line has too many
+pub record ValuesRead (was : Reader) (values : List ℕ) (is : Reader) : Type 0 where
   pub fields : Line
   pub text : unread was ≡ fields ∷ unread is
   pub right : first_wrong was.line 1 fields ≡ None
-  pub counted : values.count ≡ length fields
-  pub kept : values.count ≡ 5 → values.at ≡ map value fields
+  pub kept : values ≡ take 6 (map value fields)
   pub start : AtStart is
   pub line : is.line ≡ was.line + 1
   pub shorter : length is.rest.now < length was.rest.now
 
 -- the values of a line, or none where only the blank line after the last line feed is left
-abbrev pub LineRead : Reader → Option Values → Reader → Type 0
-LineRead was (Some values) is = ValuesRead was values is
+abbrev pub LineRead : Reader → Option (ArrayVec ℕ) → Reader → Type 0
+LineRead was (Some values) is = ValuesRead was values.items is
 LineRead was None is = Last was.line (unread was) None
 
 -- what the bytes that are left say, from their line on

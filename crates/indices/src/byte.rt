@@ -11,13 +11,15 @@ pub enum Kind {
     Other,
 }
 
-pub(crate) fn kind_of(b: u8) -> Kind
-    ensures { result ≡ kind b }
-{
-    match b as char {
-        ',' => Kind::Comma,
-        '\n' => Kind::LineFeed,
-        '0'..='9' => Kind::Digit(b - b'0'),
-        _ => Kind::Other,
+impl From<u8> for Kind {
+    ghost from_gives = { λ b k. k ≡ kind b };
+
+    fn from(b: u8) -> Kind {
+        match b as char {
+            ',' => Kind::Comma,
+            '\n' => Kind::LineFeed,
+            '0'..='9' => Kind::Digit(b - b'0'),
+            _ => Kind::Other,
+        }
     }
 }

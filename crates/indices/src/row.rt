@@ -1,8 +1,10 @@
 // A row of a sheet, and the states of the unit that it describes.
-ghost use Rattle.std.specs.Prelude.{◌≡◌, ◌+◌, ◌<◌, ◌≤◌, ◌++◌, length, take};
-ghost use Rattle.indices.specs.Row.{under, row_of, rates, state_if, states};
+ghost use Rattle.std.specs.Prelude.{◌≡◌, ◌+◌, ◌≤◌, length, position};
+ghost use Rattle.indices.specs.Names.{same};
+ghost use Rattle.indices.specs.Row.{under, row_of, rates, states};
 
-use crate::names::{COLUMNS, Column};
+use crate::names::Column;
+use arrayvec::ArrayVec;
 use rounding::{MILLION, State};
 
 // The rates of a unit leave some weight to no outage
@@ -25,31 +27,25 @@ pub struct Row {
     pub prate: u32,
 }
 
-// The first `count` are a unit's states.
-#[derive(Clone, Copy)]
-pub struct States {
-    pub at: [State; STATES],
-    pub count: usize,
+// The place of a column.
+fn place_of(column: Column, columns: &[Column]) -> Option<usize>
+    ensures { result ≡ position (λ d. same d column) columns.now }
+{
+    columns.iter().position(|d| *d == column)
 }
 
 // The value that stands in the place of a column.
-fn value_under(c: Column, columns: &[Column], values: &[u32]) -> u32
+fn value_under(column: Column, columns: &[Column], values: &[u32]) -> u32
     requires { length columns.now ≡ length values.now }
-    ensures { result ≡ under c columns.now values.now }
+    ensures { result ≡ under column columns.now values.now }
 {
-    for (i, d) in columns.iter().enumerate() {
-        if c == *d {
-            return values[i];
-        }
-    }
-    0
+    place_of(column, columns).map_or(0, |place| values[place])
 }
 
 impl Row {
     // The row that a line's values give, in the order of the columns.
-    pub(crate) fn new(line: u32, columns: &[Column; COLUMNS], values: &[u32; COLUMNS]) -> Row
-        requires columns { length columns.now ≡ 5 }
-        requires values { length values.now ≡ 5 }
+    pub(crate) fn new(line: u32, columns: &[Column], values: &[u32]) -> Row
+        requires { length columns.now ≡ length values.now }
         ensures { result ≡ row_of columns.now line values.now }
     {
         Row {
@@ -70,49 +66,27 @@ impl Row {
         sum <= MOST_RATES && (self.part == 0) == (self.prate == 0)
     }
 
-    pub(crate) fn states(&self) -> States
+    pub(crate) fn states(&self) -> ArrayVec<State, STATES>
         requires { self.now.rate + self.now.prate ≤ 999999 }
-        ensures states { take result.count result.at ≡ states self.now }
-        ensures some { 1 ≤ result.count }
-        ensures few { result.count ≤ 3 }
-        ensures length { length result.at ≡ 3 }
+        ensures { result.items ≡ states self.now }
     {
-        let none = State {
+        let mut states = ArrayVec::new();
+        states.push(State {
             outage: 0,
             weight: MILLION - self.rate - self.prate,
-        };
-        let mut states = States {
-            at: [none; STATES],
-            count: 1,
-        };
-        let part = State {
-            outage: self.part,
-            weight: self.prate,
-        };
-        states.add_if(self.part, part);
-        let full = State {
-            outage: self.cap,
-            weight: self.rate,
-        };
-        states.add_if(self.rate, full);
-        states
-    }
-}
-
-impl States {
-    // A state more, if the number that decides it is above 0.
-    fn add_if(&mut self, decides: u32, state: State)
-        requires room { self.old.count < 3 }
-        requires length { length self.old.at ≡ 3 }
-        ensures states { take self.new.count self.new.at ≡ take self.old.count self.old.at ++ state_if decides state.outage state.weight }
-        ensures more { self.old.count ≤ self.new.count }
-        ensures one { self.new.count ≤ self.old.count + 1 }
-        ensures length { length self.new.at ≡ 3 }
-    {
-        if decides == 0 {
-            return;
+        });
+        if self.part > 0 {
+            states.push(State {
+                outage: self.part,
+                weight: self.prate,
+            });
         }
-        self.at[self.count] = state;
-        self.count += 1;
+        if self.rate > 0 {
+            states.push(State {
+                outage: self.cap,
+                weight: self.rate,
+            });
+        }
+        states
     }
 }

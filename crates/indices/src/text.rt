@@ -1,45 +1,40 @@
 // Cuts a sheet into its fields, one token at a time.
-ghost use Rattle.std.specs.Prelude.{◌≡◌, ℕ, ◌<◌, ◌≤◌, true, false, length, Ok, slice_index};
+ghost use Rattle.std.specs.Prelude.{◌≡◌, ◌≤◌, true, false, length, Ok};
+ghost use Rattle.std.specs.List.{list_any, position};
 ghost use Rattle.indices.specs.Byte.{kind};
 ghost use Rattle.indices.specs.Text.{lines, complete, ends, feed};
 ghost use Rattle.indices.specs.Reader.{unread, AtStart, Ready, Reads};
 
-use crate::byte::{Kind, kind_of};
+use crate::byte::Kind;
 use crate::fault::{Fault, Reason};
+use crate::field::Field;
 
 // Whether a byte ends a line.
 fn feeds(b: u8) -> bool
     ensures { result ≡ feed (kind b) }
 {
-    matches!(kind_of(b), Kind::LineFeed)
+    matches!(Kind::from(b), Kind::LineFeed)
+}
+
+// Whether a byte ends a field.
+fn ends_field(b: u8) -> bool
+    ensures { result ≡ ends (kind b) }
+{
+    matches!(Kind::from(b), Kind::Comma | Kind::LineFeed)
 }
 
 // Whether the line that the bytes begin with has its line feed.
 fn has_line_feed(bytes: &[u8]) -> bool
-    ensures { result ≡ complete (lines bytes.now) }
+    ensures { result ≡ list_any (λ b. feed (kind b)) bytes.now }
 {
-    for b in bytes {
-        if feeds(*b) {
-            return true;
-        }
-    }
-    false
+    bytes.iter().any(|b| feeds(*b))
 }
 
-// How many bytes stand before the first that ends a field, in a line that has its line feed.
-fn field_length(bytes: &[u8]) -> usize
-    requires { complete (lines bytes.now) ≡ true }
-    ensures within { result < length bytes.now }
-    ensures inside { (k : ℕ) → k < result → ends (kind (slice_index bytes.now k)) ≡ false }
-    ensures ended { ends (kind (slice_index bytes.now result)) ≡ true }
+// The place of the first byte that ends a field.
+fn field_end(bytes: &[u8]) -> Option<usize>
+    ensures { result ≡ position (λ b. ends (kind b)) bytes.now }
 {
-    for (i, b) in bytes.iter().enumerate() {
-        match kind_of(*b) {
-            Kind::Comma | Kind::LineFeed => return i,
-            Kind::Digit(_) | Kind::Other => {}
-        }
-    }
-    bytes.len()
+    bytes.iter().position(|b| ends_field(*b))
 }
 
 // What is left of a sheet to read.
@@ -56,11 +51,7 @@ pub struct Reader<'a> {
 
 #[derive(Clone, Copy)]
 pub enum Token<'a> {
-    Field {
-        bytes: &'a [u8],
-        line: u32,
-        place: u32,
-    },
+    Field(Field<'a>),
     LineEnd,
     SheetEnd,
 }
@@ -89,15 +80,15 @@ impl<'a> Reader<'a> {
         ensures { Reads self.old (Ok result) self.new }
     {
         let rest = self.rest;
-        let length = field_length(rest);
+        let length = field_end(rest).unwrap();
         self.ended = feeds(rest[length]);
         self.rest = &rest[length + 1..];
         self.place += 1;
-        Token::Field {
-            bytes: &rest[0..length],
+        Token::Field(Field {
+            bytes: &rest[..length],
             line: self.line,
             place: self.place,
-        }
+        })
     }
 
     pub(crate) fn token(&mut self) -> Result<Token<'a>, Fault>
@@ -115,11 +106,7 @@ impl<'a> Reader<'a> {
         }
         // a line without its line feed is refused before any of its fields is read
         if self.place == 0 && !has_line_feed(self.rest) {
-            return Err(Fault {
-                reason: Reason::NoLineFeed,
-                line: self.line,
-                field: 0,
-            });
+            return Err(Fault::of_line(Reason::NoLineFeed, self.line));
         }
         Ok(self.field())
     }

@@ -1,5 +1,5 @@
 // Intake: the rows of a sheet are added to a fleet one by one, up to the first fault.
-ghost use Rattle.std.specs.Prelude.{◌≡◌, ◌+◌, ◌≤◌, length, Some, None, Ok, Err};
+ghost use Rattle.std.specs.Prelude.{◌≡◌, ◌+◌, ◌≤◌, length, Some, None, MatchResult};
 ghost use Rattle.std.specs.Option.{option_map};
 ghost use Rattle.fleet.specs.Fleets.{ledger_of};
 ghost use Rattle.indices.specs.Fault.{report, layer, number, written};
@@ -40,18 +40,13 @@ impl fmt::Display for Stopped {
 // Adds the unit that a row describes.
 fn take_row<R: Rounding>(fleet: &mut Fleet, rule: &R, row: &Row) -> Result<(), Fault>
     requires { row.now.rate + row.now.prate ≤ 999999 }
-    ensures answer { elim result [ Ok _ ↦ row_refusal (ledger_of fleet.old) row.now ≡ None | Err fault ↦ option_map (refused_row row.now.line) (row_refusal (ledger_of fleet.old) row.now) ≡ Some (report fault) ] }
+    ensures answer { MatchResult result (λ _. row_refusal (ledger_of fleet.old) row.now ≡ None) (λ fault. option_map (refused_row row.now.line) (row_refusal (ledger_of fleet.old) row.now) ≡ Some (report fault)) }
     ensures after { ledger_of fleet.new ≡ after_row (R.answer rule.now) (ledger_of fleet.old) row.now }
 {
-    let states = row.states();
-    match fleet.add(rule, row.id, row.cap, &states.at[0..states.count]) {
-        Ok(_) => Ok(()),
-        Err(refusal) => Err(Fault {
-            reason: Reason::Fleet(refusal),
-            line: row.line,
-            field: 0,
-        }),
-    }
+    fleet
+        .add(rule, row.id, row.cap, &row.states())
+        .map_err(|refusal| Fault::of_line(Reason::Fleet(refusal), row.line))?;
+    Ok(())
 }
 
 // Adds row after row, and counts them in `added`.

@@ -1,16 +1,17 @@
 use Rattle.std.proofs.Common.{sym, ap, ◌∙◌, arith}
+use Rattle.std.proofs.lemmas.Option.{MatchOption-at_some, MatchOption-at_none}
 use Rattle.std.proofs.lemmas.Result.{err_from_is_err_and}
 use Rattle.fleet.specs.Fleets.{ledger_of}
 use Rattle.indices.specs.Intake.{taken_sheet}
 use Rattle.indices.specs.Rows.{remaining, RowRead}
-use Rattle.indices.proofs.Taking.{taken_rowless, taken_accepted, taken_refused, took, some_row, no_row}
+use Rattle.indices.proofs.Taking.{taken_rowless, taken_accepted, taken_refused, took}
 use Rattle.indices.proofs.unit_intake.take_rows.Given as given
 use Rattle.indices.proofs.unit_intake.take_rows.Goals as goal
 use Rattle.indices.proofs.unit_intake.take_rows.Goals.{In-Some}
 
 -- the row that was read
 read : (g : given.Over) (c : In-Some g) → RowRead c.loop-row.rows c.in-Some.row c.next_row.new.self
-read g c = some_row c.loop-row.rows c.next_row.new.self c.in_ok-row.field-0 c.in-Some.row c.in-Some.is c.in_ok-row.ensures
+read g c = MatchOption-at_some _ (λ row. RowRead c.loop-row.rows row c.next_row.new.self) _ c.in-Some.is c.in_ok-row.ensures
 
 pub loop-row-init : goal.loop-row-init
 loop-row-init g c = record {
@@ -54,4 +55,4 @@ loop-row-preserved g c =
 pub returns : goal.returns
 returns g c =
     took _ _ _ _
-    (sym (taken_rowless _ _ _ (ledger_of c.loop-row.fleet) c.loop-row.added (no_row c.loop-row.rows c.next_row.new.self c.in_ok-row.field-0 c.in_default.is c.in_ok-row.ensures)) ∙ c.loop-row.invariant.same)
+    (sym (taken_rowless _ _ _ (ledger_of c.loop-row.fleet) c.loop-row.added (MatchOption-at_none _ (λ row. RowRead c.loop-row.rows row c.next_row.new.self) c.in_default.is c.in_ok-row.ensures)) ∙ c.loop-row.invariant.same)

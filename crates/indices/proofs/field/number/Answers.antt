@@ -3,7 +3,7 @@ use Rattle.std.proofs.lemmas.List.{take_all}
 use Rattle.std.proofs.lemmas.Bool.{both_ways}
 use Rattle.indices.specs.Value.{value}
 use Rattle.indices.proofs.Digits.{digit_value, not_digit, digit_at, value_more, below_more, below_seven}
-use Rattle.indices.proofs.value.number.Goals as goal
+use Rattle.indices.proofs.field.number.Goals as goal
 
 pub overflow_mul-n : goal.overflow_mul-n
 overflow_mul-n c = let h = below_seven _ _ c.loop-b.invariant.1 (omega arith) in omega arith
@@ -15,13 +15,13 @@ overflow_add-n c =
 
 pub unreachable-requires : goal.unreachable-requires
 unreachable-requires c =
-    both_ways _ (not_digit _ (λ d e. c.in_default.not-Digit d (c.kind_of.ensures ∙ e)))
+    both_ways _ (not_digit _ (λ d e. c.in_default.not-Digit d (c.from.ensures ∙ e)))
     (digit_at c.args.bytes.now c.loop-b.b-index c.loop-b-test.true c.requires.digits)
 
 pub loop-b-preserved : goal.loop-b-preserved
 loop-b-preserved c =
     let d = digit_value (get_or c.args.bytes.now c.loop-b.b-index 0) _ (sym c.in-Digit.ensures) in (
-      value_more c.args.bytes.now c.loop-b.b-index _ _ c.loop-b-test.true c.loop-b.invariant.0 (c.from.ensures ∙ d.0),
+      value_more c.args.bytes.now c.loop-b.b-index _ _ c.loop-b-test.true c.loop-b.invariant.0 (c.from-in-Digit.ensures ∙ d.0),
       below_more c.loop-b.b-index _ _ c.loop-b.invariant.1 (omega arith),
     )
 
