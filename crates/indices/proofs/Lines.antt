@@ -148,3 +148,8 @@ pub complete_field : (f : List ℕ) (ls : List Line) → complete (with_field f 
 complete_field f [] = refl
 complete_field f (l ∷ []) = refl
 complete_field f (l ∷ m ∷ ls) = refl
+
+-- where the field does not end the line, the line feed is still to come
+pub complete_behind : (bs : List ℕ) (n : ℕ) → Cut bs n → complete (lines bs) ≡ true → feed (kind (get_or bs n 0)) ≡ false → complete (lines (drop (n + 1) bs)) ≡ true
+complete_behind bs n cut whole on =
+    ap (λ t. complete (behind t (lines (drop (n + 1) bs)))) (sym on) ∙ (sym (complete_field (take n bs) (behind (feed (kind (get_or bs n 0))) (lines (drop (n + 1) bs)))) ∙ (ap complete (sym (field_text bs n cut)) ∙ whole))

@@ -9,13 +9,13 @@ use Rattle.indices.specs.declared.text.Reader.{Reader}
 use Rattle.indices.specs.Fault.{fault_at, fault_of_line}
 use Rattle.indices.specs.Names.{column, among, all, fresh, order}
 use Rattle.indices.specs.End.{final}
-use Rattle.indices.specs.Reader.{unread, AtStart, Ready, FieldRead, LineEnded, Last}
+use Rattle.indices.specs.Reader.{unread, AtStart, FieldRead, LineEnded, Last}
 use Rattle.indices.specs.Rows.{NamesRead}
 use Rattle.indices.specs.Sheet.{Sheet, no_rows, below_names, text}
 use Rattle.indices.specs.Text.{Line, with_field, complete}
 use Rattle.indices.proofs.Columns.{Once, once_none, once_push, five_at_most, room, all_five, not_all}
 use Rattle.indices.proofs.Lines.{Begun}
-use Rattle.indices.proofs.Reading.{ready_at_start, start_after, begun_after}
+use Rattle.indices.proofs.Reading.{whole_begun, start_after, begun_after}
 
 -- what a sheet says, the fields before a place of line 1 being read
 abbrev pub named : List Column → ℕ → List Line → Sheet
@@ -66,7 +66,6 @@ new_among before (Some d) c h =
 -- line 1 of what `was` has unread is being read, and these are its columns so far
 pub record Naming (was is : Reader) (columns : List Column) : Type 0 where
   pub says : text (unread was) ≡ named columns (is.place + 1) (unread is)
-  pub ready : Ready is
   pub line : is.line ≡ 1
   pub once : Once columns
 
@@ -74,7 +73,6 @@ pub naming_none : (was : Reader) (columns : List Column) → AtStart was → was
 naming_none was columns start line none =
     record {
       says = text_named (unread was) ∙ (λ i. named (sym none i) (sym start.no_place i + 1) (unread was));
-      ready = ready_at_start was start;
       line = line;
       once = subst Once (sym none) once_none;
     }
@@ -82,7 +80,7 @@ naming_none was columns start line none =
 module _ (was mid is : Reader) (columns : List Column) (h : Naming was mid columns) where
   module _ (f : List ℕ) (line place : ℕ) (read : FieldRead mid f line place is) where
     whole : complete (unread is) ≡ true
-    whole = read.ready.whole (omega (arith, read.next_place))
+    whole = whole_begun is (omega (arith, read.next_place))
 
     pub naming_wrong : fresh columns (column f) ≡ None → text (unread was) ≡ no_rows (Some (fault_at Names line place))
     naming_wrong bad =
@@ -100,7 +98,6 @@ module _ (was mid is : Reader) (columns : List Column) (h : Naming was mid colum
           record {
             says =
                 h.says ∙ ap (named columns (mid.place + 1)) read.text ∙ named_next columns (mid.place + 1) f (unread is) c whole new ∙ (λ i. named (sym pushed i) (sym read.next_place i + 1) (unread is));
-            ready = read.ready;
             line = read.same_line ∙ h.line;
             once = subst Once (sym pushed) (once_push columns c h.once other);
           }

@@ -1,15 +1,20 @@
 -- What is known while a line of values is being read. Assumes nothing.
-use Rattle.std.proofs.Common.{◌≡◌, ℕ, ◌+◌, ◌<◌, ◌≤◌, true, false, ◌⊎◌, List, [], ◌∷◌, ◌++◌, map, length, take, None, Ok, Err, Result, IsOk, OnOk, OnErr, ◌↔◌, inl, inr, sym, refl, ap, ◌∙◌, ⊎_elim, arith}
+use Rattle.std.proofs.Common.{◌≡◌, ℕ, ◌+◌, ◌<◌, ◌≤◌, true, false, ◌⊎◌, List, [], ◌∷◌, ◌++◌, map, length, take, Some, None, Ok, Err, Option, Result, IsOk, OnOk, OnErr, ◌↔◌, inl, inr, sym, refl, ap, ◌∙◌, ⊎_elim, arith}
 use Rattle.std.specs.Option.{option_or}
 use Rattle.std.proofs.lemmas.List.{append_assoc, append-nil, length_push, take_all, take-append-le}
 use Rattle.std.proofs.lemmas.Bool.{both_ways, cases_lt}
+use Rattle.indices.specs.declared.fault.Fault.{Fault}
+use Rattle.indices.specs.declared.names.Column.{Column}
+use Rattle.indices.specs.declared.row.Row.{Row}
 use Rattle.indices.specs.declared.text.Reader.{Reader}
-use Rattle.indices.specs.Reader.{unread, Ready, FieldRead, LineEnded}
+use Rattle.indices.specs.Reader.{unread, FieldRead, LineEnded}
+use Rattle.indices.specs.Row.{row_of}
 use Rattle.indices.specs.Rows.{ValuesRead}
+use Rattle.indices.specs.Sheet.{no_rows, count_fault, rate_fault, with_row, below}
 use Rattle.indices.specs.Text.{Line, with_field, complete}
 use Rattle.indices.specs.Value.{value, wrong, located, first_wrong}
 use Rattle.indices.proofs.Lines.{complete_field}
-use Rattle.indices.proofs.Reading.{start_after}
+use Rattle.indices.proofs.Reading.{start_after, whole_begun}
 
 abbrev first : List Line → Line
 first [] = []
@@ -30,6 +35,13 @@ first_field f (l ∷ ls) h = refl
 later_field : (f : List ℕ) (ls : List Line) → later (with_field f ls) ≡ later ls
 later_field f [] = refl
 later_field f (l ∷ ls) = refl
+
+below_wrong : (columns : List Column) (line : ℕ) (ls : List Line) (fault : Fault) → complete ls ≡ true → first_wrong line 1 (first ls) ≡ Some fault → below columns line ls ≡ no_rows (Some fault)
+below_wrong columns line [] fault whole h = absurd (both_ways false refl whole)
+below_wrong columns line (l ∷ []) fault whole h = absurd (both_ways false refl whole)
+below_wrong columns line (l ∷ m ∷ ls) fault whole h =
+    let row : Row = row_of columns line (map value l) in
+    ap (λ (o : Option Fault). with_row (option_or o (option_or (count_fault line l) (rate_fault row))) row (below columns (line + 1) (m ∷ ls))) h
 
 -- a value is kept, where six are not kept yet
 pub Kept : List ℕ → ℕ → List ℕ → Type 0
@@ -57,7 +69,6 @@ kept_from values next v (Err _) room pushed same full = inr (same, full)
 
 -- the line that `was` stands before is being read, and these are its values so far
 pub record Valuing (was is : Reader) (values : List ℕ) : Type 0 where
-  pub ready : Ready is
   pub line : is.line ≡ was.line
   pub begun : is.place ≡ 0 → unread is ≡ unread was
   pub whole : 0 < is.place → complete (unread was) ≡ true
@@ -70,7 +81,7 @@ pub record Valuing (was is : Reader) (values : List ℕ) : Type 0 where
 module _ (was mid is : Reader) (values : List ℕ) (h : Valuing was mid values) where
   module _ (f : List ℕ) (line place : ℕ) (read : FieldRead mid f line place is) where
     on : complete (unread is) ≡ true
-    on = read.ready.whole (omega (arith, read.next_place))
+    on = whole_begun is (omega (arith, read.next_place))
 
     fields : first (unread mid) ≡ f ∷ first (unread is)
     fields = ap first read.text ∙ first_field f (unread is) on
@@ -89,10 +100,13 @@ module _ (was mid is : Reader) (values : List ℕ) (h : Valuing was mid values) 
     judged =
         h.right ∙ ap (first_wrong was.line (mid.place + 1)) fields ∙ (λ i. option_or (located (sym (read.line_is ∙ h.line) i) (sym read.place_is i) (wrong f)) (first_wrong was.line (mid.place + 1 + 1) (first (unread is))))
 
+    pub valuing_wrong : (fault : Fault) → located line place (wrong f) ≡ Some fault → (columns : List Column) → below columns was.line (unread was) ≡ no_rows (Some fault)
+    valuing_wrong fault bad columns =
+        below_wrong columns was.line (unread was) fault whole_line (judged ∙ ap (λ o. option_or o (first_wrong was.line (mid.place + 1 + 1) (first (unread is)))) bad)
+
     pub valuing_more : (v : ℕ) (next : List ℕ) → wrong f ≡ None → v ≡ value f → Kept values v next → Valuing was is next
     valuing_more v next good is-value kept =
         record {
-          ready = read.ready;
           line = read.same_line ∙ h.line;
           begun = λ e. absurd (omega (arith, read.next_place));
           whole = λ _. whole_line;

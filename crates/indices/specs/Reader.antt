@@ -11,12 +11,6 @@ use Rattle.indices.specs.Text.{Line, with_field, lines, complete}
 abbrev pub unread : Reader → List Line
 unread r = cond r.ended ([] ∷ lines r.rest.now) (lines r.rest.now)
 
--- once a field is read, the line is known to have its line feed
-pub record Ready (r : Reader) : Type 0 where
-  pub fits : r.line + r.place + length r.rest.now < 2 ^ 32
-  pub begun : r.ended ≡ true → 0 < r.place
-  pub whole : 0 < r.place → complete (unread r) ≡ true
-
 pub record FieldRead (was : Reader) (bytes : List ℕ) (line place : ℕ) (is : Reader) : Type 0 where
   pub text : unread was ≡ with_field bytes (unread is)
   pub line_is : line ≡ was.line
@@ -24,7 +18,6 @@ pub record FieldRead (was : Reader) (bytes : List ℕ) (line place : ℕ) (is : 
   pub same_line : is.line ≡ was.line
   pub next_place : is.place ≡ was.place + 1
   pub shorter : length is.rest.now < length was.rest.now
-  pub ready : Ready is
 
 pub record LineEnded (was is : Reader) : Type 0 where
   pub text : unread was ≡ [] ∷ unread is
@@ -33,7 +26,6 @@ pub record LineEnded (was is : Reader) : Type 0 where
   pub not_ended : is.ended ≡ false
   pub some_place : 0 < was.place
   pub same : is.rest.now ≡ was.rest.now
-  pub ready : Ready is
 
 -- only the line after the last line feed is left, and this is wrong with it
 pub record Last (line : ℕ) (ls : List Line) (fault : Option Fault) : Type 0 where
@@ -49,6 +41,5 @@ Reads was (Err fault) is = Last was.line (unread was) (Some fault)
 
 -- at the start of a line
 pub record AtStart (r : Reader) : Type 0 where
-  pub fits : r.line + length r.rest.now < 2 ^ 32
   pub no_place : r.place ≡ 0
   pub unended : r.ended ≡ false

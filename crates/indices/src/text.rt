@@ -1,9 +1,8 @@
 // Cuts a sheet into its fields, one token at a time.
-ghost use Rattle.std.specs.Prelude.{◌≡◌, ◌≤◌, true, false, length, Ok};
+ghost use Rattle.std.specs.Prelude.{◌≡◌, ◌+◌, ◌^◌, ◌<◌, ◌≤◌, true, false, length, Ok};
 ghost use Rattle.std.specs.List.{list_any, position};
 ghost use Rattle.indices.specs.Byte.{kind};
 ghost use Rattle.indices.specs.Text.{lines, complete, ends, feed};
-ghost use Rattle.indices.specs.Reader.{unread, AtStart, Ready, Reads};
 
 use crate::byte::Kind;
 use crate::fault::{Fault, Reason};
@@ -47,6 +46,12 @@ pub struct Reader<'a> {
     place: u32,
     // the line feed of that line is read
     ended: bool,
+    // the lines and the fields of a line can be counted
+    ghost fits: { line + place + length rest.now < 2 ^ 32 },
+    // a line ends with a field
+    ghost begun: { ended ≡ true → 0 < place },
+    // a line of which a field is read is known to have its line feed
+    ghost whole: { 0 < place → ended ≡ false → complete (lines rest.now) ≡ true },
 }
 
 #[derive(Clone, Copy)]
@@ -57,6 +62,8 @@ pub enum Token<'a> {
 }
 
 impl<'a> Reader<'a> {
+    ghost use Rattle.indices.specs.Reader.{unread, AtStart, Reads};
+
     // At the start of a sheet, which is short enough to count its lines and fields.
     pub(crate) fn new(sheet: &'a [u8]) -> Self
         requires { length sheet.now ≤ 65535 }
@@ -74,7 +81,6 @@ impl<'a> Reader<'a> {
 
     // The next field of a line that has its line feed.
     fn field(&mut self) -> Token<'a>
-        requires ready { Ready self.old }
         requires unended { self.old.ended ≡ false }
         requires whole { complete (lines self.old.rest.now) ≡ true }
         ensures { Reads self.old (Ok result) self.new }
@@ -92,7 +98,6 @@ impl<'a> Reader<'a> {
     }
 
     pub(crate) fn token(&mut self) -> Result<Token<'a>, Fault>
-        requires { Ready self.old }
         ensures { Reads self.old result self.new }
     {
         if self.ended {

@@ -10,9 +10,6 @@ use Rattle.indices.proofs.names.read_names.Goals.{In-Field, In-LineEnd, In_ok-fr
 pub loop-field-init : goal.loop-field-init
 loop-field-init c = naming_none c.args.reader.now _ c.requires.start c.requires.line c.new-columns.ensures
 
-pub token-requires : goal.token-requires
-token-requires c = c.loop-field.invariant.ready
-
 pub returns-in_err-field : goal.returns-in_err-field
 returns-in_err-field c =
     let p = err_from_is_err_and c.from_residual.result c.from_residual.ensures.1 in

@@ -37,7 +37,7 @@ returns-in_err-take_row g c =
     rw (p.1, p.2) (took _ _ _ _ (refused ∙ c.loop-row.invariant.same))
 
 pub overflow_add-added : goal.overflow_add-added
-overflow_add-added g c = omega (arith, c.loop-row.invariant.bound, (read g (goal.at.overflow_add-added g c).In-Some).shorter, c.requires.standing.start.fits)
+overflow_add-added g c = omega (arith, c.loop-row.invariant.bound, (read g (goal.at.overflow_add-added g c).In-Some).shorter, c.args.rows.now.reader.fits)
 
 pub loop-row-smaller : goal.loop-row-smaller
 loop-row-smaller g c = (read g (goal.at.loop-row-smaller g c).In-Some).shorter

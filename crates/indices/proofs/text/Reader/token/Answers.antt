@@ -2,7 +2,7 @@ use Rattle.std.proofs.Common.{◌≡◌, ◌<◌, ◌≤◌, ◌⊎◌, false, l
 use Rattle.std.proofs.lemmas.Bool.{eqb-true, eqb-false}
 use Rattle.indices.specs.Text.{lines, complete}
 use Rattle.indices.proofs.Lines.{complete_any}
-use Rattle.indices.proofs.Reading.{unread_open, sheet_ends, unfed}
+use Rattle.indices.proofs.Reading.{sheet_ends, unfed}
 use Rattle.indices.proofs.text.Reader.token.Goals as goal
 use Rattle.indices.proofs.text.Reader.token.Goals.{else-self-gt1-via-then-self-gt1+else-is_empty, else-self-gt1-via-else-self-gt1, else-self-eq0-via-then-self-eq0+else-not-has_line_feed, else-self-eq0-via-else-self-eq0}
 
@@ -23,5 +23,5 @@ returns-then-not-has_line_feed c =
 pub field-requires-clause-whole : goal.field-requires-clause-whole
 field-requires-clause-whole c = elim c.else-self-eq0.branch [
   | else-self-eq0-via-then-self-eq0+else-not-has_line_feed w ↦ complete_any c.args.self.now.rest.now ∙ sym w.if-not-has_line_feed.ensures
-  | else-self-eq0-via-else-self-eq0 w ↦ ap complete (sym (unread_open c.args.self.now c.if-self.false)) ∙ c.requires.whole (omega arith)
+  | else-self-eq0-via-else-self-eq0 w ↦ c.args.self.now.whole (omega arith) c.if-self.false
 ]
