@@ -8,12 +8,12 @@ use Rattle.fleet.specs.Ledger.{Ledger}
 use Rattle.fleet.specs.Refusals.{unless}
 use Rattle.fleet.specs.Units.{new_unit}
 use Rattle.indices.specs.declared.fault.Fault.{Fault}
-use Rattle.indices.specs.declared.row.Row.{Row}
 use Rattle.indices.specs.declared.sheet.Rows.{Rows}
 use Rattle.indices.specs.Fault.{Report, report}
 use Rattle.indices.specs.Intake.{Intake, row_refusal, after_row, refused_row, taken, taken_sheet, Took}
-use Rattle.indices.specs.Row.{states}
-use Rattle.indices.specs.Rows.{remaining, BetweenRows, RowRead}
+use Rattle.indices.specs.Reader.{AtStart}
+use Rattle.indices.specs.Row.{Row, states}
+use Rattle.indices.specs.Rows.{remaining, RowRead}
 use Rattle.indices.specs.Sheet.{Sheet, no_rows}
 
 abbrev pub left : Ledger → ℕ → Option Report → Intake
@@ -97,10 +97,10 @@ growth answer s l after added fault h =
     omega (arith, all, ap (λ m. length m.units) h.ledger_is, h.added_is)
 
 -- so far the rows before have been taken, and what is left gives the whole
-pub record Going (answer : ℕ → ℕ → ℕ) (start : Rows) (l₀ : Ledger) (rows : Rows) (l : Ledger) (n : ℕ) : Type 0 where
-  pub same : taken_sheet answer (remaining rows) l n ≡ taken_sheet answer (remaining start) l₀ 0
-  pub standing : BetweenRows rows
-  pub bound : n + length rows.reader.rest.now ≤ length start.reader.rest.now
+pub record Going (answer : ℕ → ℕ → ℕ) (first : Rows) (l₀ : Ledger) (rows : Rows) (l : Ledger) (n : ℕ) : Type 0 where
+  pub same : taken_sheet answer (remaining rows) l n ≡ taken_sheet answer (remaining first) l₀ 0
+  pub start : AtStart rows.reader
+  pub bound : n + length rows.reader.rest.now ≤ length first.reader.rest.now
 
 pub took : (i : Intake) (l : Ledger) (n : ℕ) (fault : Option Report) → left l n fault ≡ i → Took i l n fault
 took i l n fault h = record { ledger_is = ap (λ j. j.ledger) h; added_is = ap (λ j. j.added) h; fault_is = ap (λ j. j.fault) h }

@@ -5,10 +5,9 @@ use Rattle.std.proofs.lemmas.List.{append_assoc, append-nil, length_push, take_a
 use Rattle.std.proofs.lemmas.Bool.{both_ways, cases_lt}
 use Rattle.indices.specs.declared.fault.Fault.{Fault}
 use Rattle.indices.specs.declared.names.Column.{Column}
-use Rattle.indices.specs.declared.row.Row.{Row}
 use Rattle.indices.specs.declared.text.Reader.{Reader}
 use Rattle.indices.specs.Reader.{unread, FieldRead, LineEnded}
-use Rattle.indices.specs.Row.{row_of}
+use Rattle.indices.specs.Row.{Row, row_of}
 use Rattle.indices.specs.Rows.{ValuesRead}
 use Rattle.indices.specs.Sheet.{no_rows, count_fault, rate_fault, with_row, below}
 use Rattle.indices.specs.Text.{Line, with_field, complete}

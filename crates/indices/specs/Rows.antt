@@ -2,10 +2,11 @@
 use Rattle.std.specs.Prelude.{◌≡◌, ℕ, ◌+◌, ◌<◌, ◌≤◌, List, ◌∷◌, map, length, take, Some, None, Option}
 use Rattle.arrayvec.specs.ArrayVec.{ArrayVec}
 use Rattle.indices.specs.declared.names.Column.{Column}
-use Rattle.indices.specs.declared.row.Row.{Row}
+use Rattle.indices.specs.declared.row.Row.{Row as RowHeld}
 use Rattle.indices.specs.declared.sheet.Rows.{Rows}
 use Rattle.indices.specs.declared.text.Reader.{Reader}
 use Rattle.indices.specs.Reader.{unread, AtStart, Last}
+use Rattle.indices.specs.Row.{Row}
 use Rattle.indices.specs.Sheet.{Sheet, below, text}
 use Rattle.indices.specs.Text.{Line, lines}
 use Rattle.indices.specs.Value.{value, first_wrong}
@@ -32,19 +33,17 @@ abbrev pub LineRead : Reader → Option (ArrayVec ℕ) → Reader → Type 0
 LineRead was (Some values) is = ValuesRead was values.items is
 LineRead was None is = Last was.line (unread was) None
 
+-- what a row that is held says
+abbrev pub row_says : RowHeld → Row
+row_says r = record { line = r.line; id = r.id; «cap» = r.«cap»; rate = r.rate; part = r.part; prate = r.prate }
+
 -- what the bytes that are left say, from their line on
 abbrev pub remaining : Rows → Sheet
 remaining rows = below rows.columns rows.reader.line (lines rows.reader.rest.now)
-
--- the columns are read, and the reader stands at the start of a line
-pub record BetweenRows (rows : Rows) : Type 0 where
-  pub start : AtStart rows.reader
-  pub five : length rows.columns ≡ 5
 
 -- a row is read, and the others and the fault are left
 pub record RowRead (was : Rows) (row : Row) (is : Rows) : Type 0 where
   pub rows : (remaining was).rows ≡ row ∷ (remaining is).rows
   pub fault : (remaining was).fault ≡ (remaining is).fault
-  pub rates : row.rate + row.prate ≤ 999999
-  pub standing : BetweenRows is
+  pub start : AtStart is.reader
   pub shorter : length is.reader.rest.now < length was.reader.rest.now

@@ -4,11 +4,10 @@ use Rattle.std.specs.Option.{option_or}
 use Rattle.indices.specs.declared.fault.Fault.{Fault}
 use Rattle.indices.specs.declared.fault.Reason.TheVariants.{TooLong, Names, FieldCount, Rates}
 use Rattle.indices.specs.declared.names.Column.{Column}
-use Rattle.indices.specs.declared.row.Row.{Row}
 use Rattle.indices.specs.Names.{order}
 use Rattle.indices.specs.End.{final}
 use Rattle.indices.specs.Fault.{fault_at, fault_of_line, fault_of_sheet}
-use Rattle.indices.specs.Row.{row_of, rates}
+use Rattle.indices.specs.Row.{Row, row_of, rates}
 use Rattle.indices.specs.Text.{Line, lines}
 use Rattle.indices.specs.Value.{value, first_wrong}
 

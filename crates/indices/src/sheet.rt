@@ -1,6 +1,5 @@
 // A sheet, row by row.
-ghost use Rattle.std.specs.Prelude.{◌≡◌, Some, None, MatchOption, MatchResult};
-ghost use Rattle.indices.specs.Rows.{remaining, BetweenRows, RowRead};
+ghost use Rattle.std.specs.Prelude.{◌≡◌, length, Some, None, MatchOption, MatchResult};
 ghost use Rattle.indices.specs.Sheet.{no_rows, sheet};
 
 use crate::fault::{Fault, Reason};
@@ -17,11 +16,15 @@ const MOST_BYTES: usize = 65_535;
 pub struct Rows<'a> {
     reader: Reader<'a>,
     columns: [Column; COLUMNS],
+    ghost five: { length columns ≡ 5 },
 }
 
 impl<'a> Rows<'a> {
+    ghost use Rattle.indices.specs.Reader.{AtStart};
+    ghost use Rattle.indices.specs.Rows.{remaining, row_says, RowRead};
+
     pub(crate) fn open(bytes: &'a [u8]) -> Result<Rows<'a>, Fault>
-        ensures { MatchResult result (λ rows. (sheet bytes.now ≡ remaining rows) × BetweenRows rows) (λ fault. sheet bytes.now ≡ no_rows (Some fault)) }
+        ensures { MatchResult result (λ rows. (sheet bytes.now ≡ remaining rows) × AtStart rows.reader) (λ fault. sheet bytes.now ≡ no_rows (Some fault)) }
     {
         if bytes.len() > MOST_BYTES {
             return Err(Fault::of_sheet(Reason::TooLong));
@@ -33,8 +36,8 @@ impl<'a> Rows<'a> {
 
     // The next row, or none where the sheet ends without a fault.
     pub(crate) fn next_row(&mut self) -> Result<Option<Row>, Fault>
-        requires { BetweenRows self.old }
-        ensures { MatchResult result (λ o. MatchOption o (remaining self.old ≡ no_rows None) (λ row. RowRead self.old row self.new)) (λ fault. remaining self.old ≡ no_rows (Some fault)) }
+        requires { AtStart self.old.reader }
+        ensures { MatchResult result (λ o. MatchOption o (remaining self.old ≡ no_rows None) (λ row. RowRead self.old (row_says row) self.new)) (λ fault. remaining self.old ≡ no_rows (Some fault)) }
     {
         let line = self.reader.line;
         let Some(values) = read_values(&mut self.reader)? else {
@@ -43,10 +46,6 @@ impl<'a> Rows<'a> {
         if values.len() != COLUMNS {
             return Err(Fault::of_line(Reason::FieldCount, line));
         }
-        let row = Row::new(line, &self.columns, &values);
-        if !row.rates_fit() {
-            return Err(Fault::of_line(Reason::Rates, line));
-        }
-        Ok(Some(row))
+        Ok(Some(Row::new(line, &self.columns, &values)?))
     }
 }

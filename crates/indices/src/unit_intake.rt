@@ -1,10 +1,11 @@
 // Intake: the rows of a sheet are added to a fleet one by one, up to the first fault.
-ghost use Rattle.std.specs.Prelude.{◌≡◌, ◌+◌, ◌≤◌, length, Some, None, MatchResult};
+ghost use Rattle.std.specs.Prelude.{◌≡◌, ◌+◌, length, Some, None, MatchResult};
 ghost use Rattle.std.specs.Option.{option_map};
 ghost use Rattle.fleet.specs.Fleets.{ledger_of};
 ghost use Rattle.indices.specs.Fault.{report, layer, number, written};
 ghost use Rattle.indices.specs.Intake.{row_refusal, after_row, refused_row, taken_sheet, told, Took, intake as intake_of, Answers, added_by};
-ghost use Rattle.indices.specs.Rows.{remaining, BetweenRows};
+ghost use Rattle.indices.specs.Reader.{AtStart};
+ghost use Rattle.indices.specs.Rows.{remaining, row_says};
 
 use crate::fault::{Fault, Reason};
 use crate::row::Row;
@@ -39,9 +40,8 @@ impl fmt::Display for Stopped {
 
 // Adds the unit that a row describes.
 fn take_row<R: Rounding>(fleet: &mut Fleet, rule: &R, row: &Row) -> Result<(), Fault>
-    requires { row.now.rate + row.now.prate ≤ 999999 }
-    ensures answer { MatchResult result (λ _. row_refusal (ledger_of fleet.old) row.now ≡ None) (λ fault. option_map (refused_row row.now.line) (row_refusal (ledger_of fleet.old) row.now) ≡ Some (report fault)) }
-    ensures after { ledger_of fleet.new ≡ after_row (R.answer rule.now) (ledger_of fleet.old) row.now }
+    ensures answer { MatchResult result (λ _. row_refusal (ledger_of fleet.old) (row_says row.now) ≡ None) (λ fault. option_map (refused_row row.now.line) (row_refusal (ledger_of fleet.old) (row_says row.now)) ≡ Some (report fault)) }
+    ensures after { ledger_of fleet.new ≡ after_row (R.answer rule.now) (ledger_of fleet.old) (row_says row.now) }
 {
     fleet
         .add(rule, row.id, row.cap, &row.states())
@@ -56,7 +56,7 @@ fn take_rows<R: Rounding>(
     rows: &mut Rows,
     added: &mut u32,
 ) -> Result<(), Fault>
-    requires standing { BetweenRows rows.old }
+    requires start { AtStart rows.old.reader }
     requires none { added.old ≡ 0 }
     ensures { Took (taken_sheet (R.answer rule.now) (remaining rows.old) (ledger_of fleet.old) 0) (ledger_of fleet.new) added.new (told result) }
 {

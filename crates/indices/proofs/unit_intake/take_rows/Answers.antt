@@ -3,25 +3,25 @@ use Rattle.std.proofs.lemmas.Option.{MatchOption-at_some, MatchOption-at_none}
 use Rattle.std.proofs.lemmas.Result.{err_from_is_err_and}
 use Rattle.fleet.specs.Fleets.{ledger_of}
 use Rattle.indices.specs.Intake.{taken_sheet}
-use Rattle.indices.specs.Rows.{remaining, RowRead}
+use Rattle.indices.specs.Rows.{remaining, row_says, RowRead}
 use Rattle.indices.proofs.Taking.{taken_rowless, taken_accepted, taken_refused, took}
 use Rattle.indices.proofs.unit_intake.take_rows.Given as given
 use Rattle.indices.proofs.unit_intake.take_rows.Goals as goal
 use Rattle.indices.proofs.unit_intake.take_rows.Goals.{In-Some}
 
 -- the row that was read
-read : (g : given.Over) (c : In-Some g) → RowRead c.loop-row.rows c.in-Some.row c.next_row.new.self
-read g c = MatchOption-at_some _ (λ row. RowRead c.loop-row.rows row c.next_row.new.self) _ c.in-Some.is c.in_ok-row.ensures
+read : (g : given.Over) (c : In-Some g) → RowRead c.loop-row.rows (row_says c.in-Some.row) c.next_row.new.self
+read g c = MatchOption-at_some _ (λ row. RowRead c.loop-row.rows (row_says row) c.next_row.new.self) _ c.in-Some.is c.in_ok-row.ensures
 
 pub loop-row-init : goal.loop-row-init
 loop-row-init g c = record {
   same = ap (taken_sheet _ (remaining c.args.rows.now) (ledger_of c.args.fleet.now)) c.requires.none;
-  standing = c.requires.standing;
+  start = c.requires.start;
   bound = omega arith;
 }
 
 pub next_row-requires : goal.next_row-requires
-next_row-requires g c = c.loop-row.invariant.standing
+next_row-requires g c = c.loop-row.invariant.start
 
 pub returns-in_err-row : goal.returns-in_err-row
 returns-in_err-row g c =
@@ -33,7 +33,7 @@ pub returns-in_err-take_row : goal.returns-in_err-take_row
 returns-in_err-take_row g c =
     let p = err_from_is_err_and c.from_residual-in_err-take_row.result c.from_residual-in_err-take_row.ensures.1 in
     let row = read g (goal.at.returns-in_err-take_row g c).In-Some in
-    let refused = taken_refused _ c.loop-row.rows c.next_row.new.self c.in-Some.row row (ledger_of c.loop-row.fleet) c.loop-row.added _ c.take_row.ensures.after _ c.in_err-take_row.ensures.answer in
+    let refused = taken_refused _ c.loop-row.rows c.next_row.new.self (row_says c.in-Some.row) row (ledger_of c.loop-row.fleet) c.loop-row.added _ c.take_row.ensures.after _ c.in_err-take_row.ensures.answer in
     rw (p.1, p.2) (took _ _ _ _ (refused ∙ c.loop-row.invariant.same))
 
 pub overflow_add-added : goal.overflow_add-added
@@ -45,14 +45,14 @@ loop-row-smaller g c = (read g (goal.at.loop-row-smaller g c).In-Some).shorter
 pub loop-row-preserved : goal.loop-row-preserved
 loop-row-preserved g c =
     let row = read g (goal.at.loop-row-preserved g c).In-Some in
-    let accepted = taken_accepted _ c.loop-row.rows c.next_row.new.self c.in-Some.row row (ledger_of c.loop-row.fleet) c.loop-row.added _ c.take_row.ensures.after c.in_ok-take_row.ensures.answer in
+    let accepted = taken_accepted _ c.loop-row.rows c.next_row.new.self (row_says c.in-Some.row) row (ledger_of c.loop-row.fleet) c.loop-row.added _ c.take_row.ensures.after c.in_ok-take_row.ensures.answer in
     record {
       same = accepted ∙ c.loop-row.invariant.same;
-      standing = row.standing;
+      start = row.start;
       bound = omega (arith, c.loop-row.invariant.bound, row.shorter);
     }
 
 pub returns : goal.returns
 returns g c =
     took _ _ _ _
-    (sym (taken_rowless _ _ _ (ledger_of c.loop-row.fleet) c.loop-row.added (MatchOption-at_none _ (λ row. RowRead c.loop-row.rows row c.next_row.new.self) c.in_default.is c.in_ok-row.ensures)) ∙ c.loop-row.invariant.same)
+    (sym (taken_rowless _ _ _ (ledger_of c.loop-row.fleet) c.loop-row.added (MatchOption-at_none _ (λ row. RowRead c.loop-row.rows (row_says row) c.next_row.new.self) c.in_default.is c.in_ok-row.ensures)) ∙ c.loop-row.invariant.same)
