@@ -9,7 +9,7 @@ use Rattle.indices.specs.Fault.{fault_of_line}
 use Rattle.indices.specs.Text.{Line, with_field, lines, complete, feed}
 use Rattle.indices.specs.End.{blank}
 use Rattle.indices.specs.Reader.{unread, AtStart, FieldRead, LineEnded, Last}
-use Rattle.indices.proofs.Lines.{Begun, Cut, behind, lines_begun, not_blank, only_line, complete_field, field_text}
+use Rattle.indices.proofs.Lines.{Begun, Cut, behind, lines_begun, not_blank, only_line, field_text}
 
 pub unread_open : (r : Reader) → r.ended ≡ false → unread r ≡ lines r.rest.now
 unread_open r unended = ap (λ e. behind e (lines r.rest.now)) unended

@@ -97,8 +97,8 @@ growth answer s l after added fault h =
     omega (arith, all, ap (λ m. length m.units) h.ledger_is, h.added_is)
 
 -- so far the rows before have been taken, and what is left gives the whole
-pub record Going (answer : ℕ → ℕ → ℕ) (first : Rows) (l₀ : Ledger) (rows : Rows) (l : Ledger) (n : ℕ) : Type 0 where
-  pub same : taken_sheet answer (remaining rows) l n ≡ taken_sheet answer (remaining first) l₀ 0
+pub record Going (answer : ℕ → ℕ → ℕ) (whole : Intake) (first rows : Rows) (l : Ledger) (n : ℕ) : Type 0 where
+  pub same : taken_sheet answer (remaining rows) l n ≡ whole
   pub start : AtStart rows.reader
   pub bound : n + length rows.reader.rest.now ≤ length first.reader.rest.now
 

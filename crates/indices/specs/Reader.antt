@@ -1,11 +1,11 @@
 -- What a reader has still to read, and what each of its tokens says of that. Assumes nothing.
-use Rattle.std.specs.Prelude.{◌≡◌, ℕ, ◌+◌, ◌^◌, ◌<◌, true, false, cond, List, [], ◌∷◌, length, Some, None, Ok, Err, Option, Result}
+use Rattle.std.specs.Prelude.{◌≡◌, ℕ, ◌+◌, ◌<◌, false, cond, List, [], ◌∷◌, length, Some, None, Ok, Err, Option, Result}
 use Rattle.indices.specs.declared.fault.Fault.{Fault}
 use Rattle.indices.specs.declared.text.Reader.{Reader}
 use Rattle.indices.specs.declared.text.Token.{Token}
 use Rattle.indices.specs.declared.text.Token.TheVariants.{Field, LineEnd, SheetEnd}
 use Rattle.indices.specs.End.{final}
-use Rattle.indices.specs.Text.{Line, with_field, lines, complete}
+use Rattle.indices.specs.Text.{Line, with_field, lines}
 
 -- as lines of fields; the first is what is left of the line that is being read
 abbrev pub unread : Reader → List Line

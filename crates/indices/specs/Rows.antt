@@ -1,5 +1,5 @@
 -- What the readers of whole lines promise, and what is left of a sheet. Assumes nothing.
-use Rattle.std.specs.Prelude.{◌≡◌, ℕ, ◌+◌, ◌<◌, ◌≤◌, List, ◌∷◌, map, length, take, Some, None, Option}
+use Rattle.std.specs.Prelude.{◌≡◌, ℕ, ◌+◌, ◌<◌, List, ◌∷◌, map, length, take, Some, None, Option}
 use Rattle.arrayvec.specs.ArrayVec.{ArrayVec}
 use Rattle.indices.specs.declared.names.Column.{Column}
 use Rattle.indices.specs.declared.row.Row.{Row as RowHeld}

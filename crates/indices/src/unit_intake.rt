@@ -3,9 +3,8 @@ ghost use Rattle.std.specs.Prelude.{◌≡◌, ◌+◌, length, Some, None, Matc
 ghost use Rattle.std.specs.Option.{option_map};
 ghost use Rattle.fleet.specs.Fleets.{ledger_of};
 ghost use Rattle.indices.specs.Fault.{report, layer, number, written};
-ghost use Rattle.indices.specs.Intake.{row_refusal, after_row, refused_row, taken_sheet, told, Took, intake as intake_of, Answers, added_by};
-ghost use Rattle.indices.specs.Reader.{AtStart};
-ghost use Rattle.indices.specs.Rows.{remaining, row_says};
+ghost use Rattle.indices.specs.Intake.{row_refusal, after_row, refused_row, told, Took, intake as intake_of, Answers, added_by};
+ghost use Rattle.indices.specs.Rows.{row_says};
 
 use crate::fault::{Fault, Reason};
 use crate::row::Row;
@@ -49,25 +48,7 @@ fn take_row<R: Rounding>(fleet: &mut Fleet, rule: &R, row: &Row) -> Result<(), F
     Ok(())
 }
 
-// Adds row after row, and counts them in `added`.
-fn take_rows<R: Rounding>(
-    fleet: &mut Fleet,
-    rule: &R,
-    rows: &mut Rows,
-    added: &mut u32,
-) -> Result<(), Fault>
-    requires start { AtStart rows.old.reader }
-    requires none { added.old ≡ 0 }
-    ensures { Took (taken_sheet (R.answer rule.now) (remaining rows.old) (ledger_of fleet.old) 0) (ledger_of fleet.new) added.new (told result) }
-{
-    while let Some(row) = rows.next_row()? {
-        take_row(fleet, rule, &row)?;
-        *added += 1;
-    }
-    Ok(())
-}
-
-// Opens a sheet and adds its rows.
+// Adds the units of a sheet, row by row, and counts them in `added`.
 fn take_sheet<R: Rounding>(
     fleet: &mut Fleet,
     rule: &R,
@@ -78,7 +59,11 @@ fn take_sheet<R: Rounding>(
     ensures { Took (intake_of (R.answer rule.now) sheet.now (ledger_of fleet.old)) (ledger_of fleet.new) added.new (told result) }
 {
     let mut rows = Rows::open(sheet)?;
-    take_rows(fleet, rule, &mut rows, added)
+    while let Some(row) = rows.next_row()? {
+        take_row(fleet, rule, &row)?;
+        *added += 1;
+    }
+    Ok(())
 }
 
 // Adds the units of a sheet, row by row. Answers how many were added, or the first fault with the

@@ -1,4 +1,4 @@
-use Rattle.std.proofs.Common.{Some, sym, refl, ap, ◌∙◌, subst}
+use Rattle.std.proofs.Common.{sym, refl, ap, ◌∙◌, subst}
 use Rattle.std.proofs.lemmas.Result.{err_from_is_err_and}
 use Rattle.indices.specs.Row.{row_of}
 use Rattle.indices.specs.Rows.{ValuesRead, LineRead}
