@@ -3,12 +3,9 @@ use Rattle.std.proofs.lemmas.Result.{err_from_is_err_and}
 use Rattle.indices.specs.Names.{column, fresh}
 use Rattle.indices.specs.Reader.{FieldRead, LineEnded, Reads}
 use Rattle.indices.specs.Sheet.{no_rows}
-use Rattle.indices.proofs.Naming.{naming_none, naming_wrong, naming_room, naming_more, naming_told, naming_last, naming_on}
+use Rattle.indices.proofs.Naming.{naming_wrong, naming_room, naming_more, naming_told, naming_last}
 use Rattle.indices.proofs.names.read_names.Goals as goal
 use Rattle.indices.proofs.names.read_names.Goals.{In-Field, In-LineEnd, In_ok-fresh_column-in-Field}
-
-pub loop-field-init : goal.loop-field-init
-loop-field-init c = naming_none c.args.reader.now _ c.requires.start c.requires.line c.new-columns.ensures
 
 pub returns-in_err-field : goal.returns-in_err-field
 returns-in_err-field c =
@@ -28,17 +25,9 @@ new c = ap (λ l. fresh l (column c.in-Field.field.bytes.now)) (sym c.deref.ensu
 pub push-requires : goal.push-requires
 push-requires c = (omega arith, naming_room _ _ c.token.new.self _ c.loop-field.invariant _ _ _ (read (goal.at.push-requires c).In-Field) _ (new c))
 
-pub loop-field-smaller : goal.loop-field-smaller
-loop-field-smaller c = (read (goal.at.loop-field-smaller c).In-Field).shorter
-
 pub loop-field-preserved : goal.loop-field-preserved
 loop-field-preserved c =
     naming_more _ _ _ _ c.loop-field.invariant _ _ _ (read (goal.at.loop-field-preserved c).In-Field) _ (new (goal.at.loop-field-preserved c).In_ok-fresh_column-in-Field) _ c.push.ensures.items
-
-pub unreachable-requires : goal.unreachable-requires
-unreachable-requires c =
-    naming_on _ _ c.token.new.self _ c.loop-field.invariant
-    (subst (λ t. Reads c.loop-field.reader (Ok t) c.token.new.self) c.in-SheetEnd.is c.in_ok-field.ensures)
 
 pub returns-in_err-fresh_column-in-Field : goal.returns-in_err-fresh_column-in-Field
 returns-in_err-fresh_column-in-Field c =

@@ -2,7 +2,6 @@ use Rattle.std.proofs.Common.{sym, ◌∙◌, arith}
 use Rattle.std.proofs.lemmas.Option.{MatchOption-at_some, MatchOption-at_none}
 use Rattle.std.proofs.lemmas.Result.{err_from_is_err_and}
 use Rattle.fleet.specs.Fleets.{ledger_of}
-use Rattle.indices.specs.Intake.{taken_sheet}
 use Rattle.indices.specs.Rows.{row_says, RowRead}
 use Rattle.indices.proofs.Taking.{taken_rowless, taken_accepted, taken_refused, took, took_rowless}
 use Rattle.indices.proofs.unit_intake.take_sheet.Given as given
@@ -12,16 +11,6 @@ use Rattle.indices.proofs.unit_intake.take_sheet.Goals.{In-Some}
 -- the row that was read
 read : (g : given.Over) (c : In-Some g) → RowRead c.loop-row.rows (row_says c.in-Some.row) c.next_row.new.self
 read g c = MatchOption-at_some _ (λ row. RowRead c.loop-row.rows (row_says row) c.next_row.new.self) _ c.in-Some.is c.in_ok-row.ensures
-
-pub loop-row-init : goal.loop-row-init
-loop-row-init g c = record {
-  same = (λ i. taken_sheet (g.R.Rounding.answer c.args.rule.now) (sym c.in_ok-rows.ensures.0 i) (ledger_of c.args.fleet.now) (c.requires i));
-  start = c.in_ok-rows.ensures.1;
-  bound = omega arith;
-}
-
-pub next_row-requires : goal.next_row-requires
-next_row-requires g c = c.loop-row.invariant.start
 
 pub returns-in_err-rows : goal.returns-in_err-rows
 returns-in_err-rows g c =
@@ -40,12 +29,6 @@ returns-in_err-take_row g c =
     let row = read g (goal.at.returns-in_err-take_row g c).In-Some in
     let refused = taken_refused _ c.loop-row.rows c.next_row.new.self (row_says c.in-Some.row) row (ledger_of c.loop-row.fleet) c.loop-row.added _ c.take_row.ensures.after _ c.in_err-take_row.ensures.answer in
     rw (p.1, p.2) (took _ _ _ _ (refused ∙ c.loop-row.invariant.same))
-
-pub overflow_add-added : goal.overflow_add-added
-overflow_add-added g c = omega (arith, c.loop-row.invariant.bound, (read g (goal.at.overflow_add-added g c).In-Some).shorter, c.in_ok-rows.rows.reader.fits)
-
-pub loop-row-smaller : goal.loop-row-smaller
-loop-row-smaller g c = (read g (goal.at.loop-row-smaller g c).In-Some).shorter
 
 pub loop-row-preserved : goal.loop-row-preserved
 loop-row-preserved g c =
