@@ -36,9 +36,6 @@ count_push : (i : ℕ) (d : Column) (cs : List Column) → count i (cs ++ (d ∷
 count_push i d [] = omega arith
 count_push i d (e ∷ cs) = omega (arith, count_push i d cs)
 
-pub once_none : Once []
-once_none i = omega arith
-
 pub once_push : (cs : List Column) (c : Column) → Once cs → among c cs ≡ false → Once (cs ++ (c ∷ []))
 once_push cs c once new i =
     rw (count_push i c cs)

@@ -9,11 +9,11 @@ use Rattle.indices.specs.declared.text.Reader.{Reader}
 use Rattle.indices.specs.Fault.{fault_at, fault_of_line}
 use Rattle.indices.specs.Names.{column, among, all, fresh, order}
 use Rattle.indices.specs.End.{final}
-use Rattle.indices.specs.Reader.{unread, AtStart, FieldRead, LineEnded, Last}
+use Rattle.indices.specs.Reader.{unread, FieldRead, LineEnded, Last}
 use Rattle.indices.specs.Rows.{NamesRead}
 use Rattle.indices.specs.Sheet.{Sheet, no_rows, below_names, text}
 use Rattle.indices.specs.Text.{Line, with_field, complete}
-use Rattle.indices.proofs.Columns.{Once, once_none, once_push, five_at_most, room, all_five, not_all}
+use Rattle.indices.proofs.Columns.{Once, once_push, five_at_most, room, all_five, not_all}
 use Rattle.indices.proofs.Lines.{Begun}
 use Rattle.indices.proofs.Reading.{whole_begun, start_after, begun_after}
 
@@ -22,11 +22,6 @@ abbrev pub named : List Column → ℕ → List Line → Sheet
 named before place [] = no_rows None
 named before place (l ∷ []) = no_rows (final 1 l)
 named before place (l ∷ m ∷ ls) = below_names (order before place l) (m ∷ ls)
-
-text_named : (ls : List Line) → text ls ≡ named [] 1 ls
-text_named [] = refl
-text_named (l ∷ []) = refl
-text_named (l ∷ m ∷ ls) = refl
 
 abbrev next : List Column → ℕ → Line → List Line → Option Column → Sheet
 next before place l ls None = below_names (Err place) ls
@@ -68,14 +63,6 @@ pub record Naming (was is : Reader) (columns : List Column) : Type 0 where
   pub says : text (unread was) ≡ named columns (is.place + 1) (unread is)
   pub line : is.line ≡ 1
   pub once : Once columns
-
-pub naming_none : (was : Reader) (columns : List Column) → AtStart was → was.line ≡ 1 → columns ≡ [] → Naming was was columns
-naming_none was columns start line none =
-    record {
-      says = text_named (unread was) ∙ (λ i. named (sym none i) (sym start.no_place i + 1) (unread was));
-      line = line;
-      once = subst Once (sym none) once_none;
-    }
 
 module _ (was mid is : Reader) (columns : List Column) (h : Naming was mid columns) where
   module _ (f : List ℕ) (line place : ℕ) (read : FieldRead mid f line place is) where
@@ -130,10 +117,3 @@ module _ (was mid is : Reader) (columns : List Column) (h : Naming was mid colum
   pub naming_last : (fault : Fault) → Last mid.line (unread mid) (Some fault) → text (unread was) ≡ no_rows (Some fault)
   naming_last fault end =
       h.says ∙ ap (named columns (mid.place + 1)) end.text ∙ ap (λ n. no_rows (final n end.last)) (sym h.line) ∙ ap no_rows end.is
-
-  -- a sheet does not end at line 1
-  pub naming_on : Last mid.line (unread mid) None → ⊥
-  naming_on end =
-      let e : final 1 end.last ≡ None = ap (λ n. final n end.last) (sym h.line) ∙ end.is in
-      let z : ◌≡◌ {A = ℕ} 0 1 = cc in
-      omega arith

@@ -1,7 +1,6 @@
 -- What each step of a reader does to what is unread. Assumes nothing.
-use Rattle.std.proofs.Common.{◌≡◌, ℕ, ◌+◌, ◌<◌, ◌≤◌, true, false, ◌&&◌, ltb, ◌⊎◌, List, [], ◌∷◌, length, get_or, take, drop, Some, None, sym, refl, ap, ◌∙◌, ⊎_elim, arith, length-drop}
-use Rattle.std.proofs.lemmas.List.{nil_from_length}
-use Rattle.std.proofs.lemmas.Bool.{cases_Bool, lt-ltb, le-ltb, and_left, and_right}
+use Rattle.std.proofs.Common.{◌≡◌, ℕ, ◌+◌, ◌<◌, ◌≤◌, true, false, ◌&&◌, ltb, ◌⊎◌, List, [], ◌∷◌, length, get_or, take, drop, Some, sym, refl, ap, ◌∙◌, ⊎_elim, arith, length-drop}
+use Rattle.std.proofs.lemmas.Bool.{cases_Bool, le-ltb, and_left, and_right}
 use Rattle.indices.specs.declared.fault.Reason.TheVariants.{NoLineFeed}
 use Rattle.indices.specs.declared.text.Reader.{Reader}
 use Rattle.indices.specs.Byte.{kind}
@@ -39,13 +38,6 @@ module _ (was is : Reader) (n : ℕ) (unended : was.ended ≡ false) (whole : co
         next_place = moved.place;
         shorter = omega (arith, cut.within);
       }
-
-pub sheet_ends : (r : Reader) → r.ended ≡ false → 1 < r.line → length r.rest.now ≡ 0 → Last r.line (unread r) None
-sheet_ends r unended later none = record {
-  last = [] ∷ [];
-  text = unread_open r unended ∙ ap lines (nil_from_length r.rest.now none);
-  is = rw (lt-ltb 1 r.line later) refl;
-}
 
 pub unfed : (r : Reader) → r.ended ≡ false → complete (lines r.rest.now) ≡ false → (r.line ≤ 1) ⊎ (0 < length r.rest.now) → Last r.line (unread r) (Some (fault_of_line NoLineFeed r.line))
 unfed r unended short why =

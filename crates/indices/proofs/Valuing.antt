@@ -1,19 +1,18 @@
 -- What is known while a line of values is being read. Assumes nothing.
 use Rattle.std.proofs.Common.{◌≡◌, ℕ, ◌+◌, ◌<◌, ◌≤◌, true, false, ◌⊎◌, List, [], ◌∷◌, ◌++◌, map, length, take, Some, None, Ok, Err, Option, Result, IsOk, OnOk, OnErr, ◌↔◌, inl, inr, sym, refl, ap, ◌∙◌, ⊎_elim, arith}
 use Rattle.std.specs.Option.{option_or}
-use Rattle.std.proofs.lemmas.List.{append_assoc, append-nil, length_push, take_all, take-append-le}
+use Rattle.std.proofs.lemmas.List.{append_assoc, length_push, take-append-le}
 use Rattle.std.proofs.lemmas.Bool.{both_ways, cases_lt}
 use Rattle.indices.specs.declared.fault.Fault.{Fault}
 use Rattle.indices.specs.declared.names.Column.{Column}
 use Rattle.indices.specs.declared.text.Reader.{Reader}
-use Rattle.indices.specs.Reader.{unread, FieldRead, LineEnded}
+use Rattle.indices.specs.Reader.{unread, FieldRead}
 use Rattle.indices.specs.Row.{Row, row_of}
-use Rattle.indices.specs.Rows.{ValuesRead}
 use Rattle.indices.specs.Sheet.{no_rows, count_fault, rate_fault, with_row, below}
 use Rattle.indices.specs.Text.{Line, with_field, complete}
 use Rattle.indices.specs.Value.{value, wrong, located, first_wrong}
 use Rattle.indices.proofs.Lines.{complete_field}
-use Rattle.indices.proofs.Reading.{start_after, whole_begun}
+use Rattle.indices.proofs.Reading.{whole_begun}
 
 abbrev first : List Line → Line
 first [] = []
@@ -22,10 +21,6 @@ first (l ∷ ls) = l
 abbrev later : List Line → List Line
 later [] = []
 later (l ∷ ls) = ls
-
-whole_first : (ls : List Line) → complete ls ≡ true → ls ≡ first ls ∷ later ls
-whole_first [] h = absurd (both_ways false refl h)
-whole_first (l ∷ ls) h = refl
 
 first_field : (f : List ℕ) (ls : List Line) → complete ls ≡ true → first (with_field f ls) ≡ f ∷ first ls
 first_field f [] h = absurd (both_ways false refl h)
@@ -117,17 +112,3 @@ module _ (was mid is : Reader) (values : List ℕ) (h : Valuing was mid values) 
               h.kept ∙ ap (λ l. take 6 (values ++ map value l)) fields ∙ ap (λ x. take 6 (values ++ x ∷ map value (first (unread is)))) (sym is-value) ∙ kept_first values next (map value (first (unread is))) v kept;
           used = omega (arith, h.used, read.next_place, read.shorter);
         }
-
-  pub valuing_over : LineEnded mid is → ValuesRead was values is
-  valuing_over end =
-      let none : first (unread mid) ≡ [] = ap first end.text in
-      record {
-        fields = first (unread was);
-        text = whole_first (unread was) (h.whole end.some_place) ∙ ap (λ ls. first (unread was) ∷ ls) (h.rest ∙ ap later end.text);
-        right = h.right ∙ ap (first_wrong was.line (mid.place + 1)) none;
-        kept =
-            sym (h.kept ∙ ap (λ l. take 6 (values ++ map value l)) none ∙ ap (take 6) (append-nil values) ∙ take_all 6 values h.few);
-        start = start_after mid is end;
-        line = omega (arith, end.next_line, h.line);
-        shorter = omega (arith, h.used, end.some_place, ap length end.same);
-      }
