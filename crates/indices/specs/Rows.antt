@@ -1,11 +1,10 @@
 -- What the readers of whole lines promise, and what is left of a sheet. Assumes nothing.
-use Rattle.std.specs.Prelude.{◌≡◌, ℕ, ◌+◌, ◌<◌, List, ◌∷◌, map, length, take, Some, None, Option}
-use Rattle.arrayvec.specs.ArrayVec.{ArrayVec}
+use Rattle.std.specs.Prelude.{◌≡◌, ℕ, ◌+◌, ◌<◌, List, ◌∷◌, map, length, take, None}
 use Rattle.indices.specs.declared.names.Column.{Column}
 use Rattle.indices.specs.declared.row.Row.{Row as RowHeld}
 use Rattle.indices.specs.declared.sheet.Rows.{Rows}
 use Rattle.indices.specs.declared.text.Reader.{Reader}
-use Rattle.indices.specs.Reader.{unread, AtStart, Last}
+use Rattle.indices.specs.Reader.{unread, AtStart}
 use Rattle.indices.specs.Row.{Row}
 use Rattle.indices.specs.Sheet.{Sheet, below, text}
 use Rattle.indices.specs.Text.{Line, lines}
@@ -27,11 +26,6 @@ pub record ValuesRead (was : Reader) (values : List ℕ) (is : Reader) : Type 0 
   pub start : AtStart is
   pub line : is.line ≡ was.line + 1
   pub shorter : length is.rest.now < length was.rest.now
-
--- the values of a line, or none where only the blank line after the last line feed is left
-abbrev pub LineRead : Reader → Option (ArrayVec ℕ) → Reader → Type 0
-LineRead was (Some values) is = ValuesRead was values.items is
-LineRead was None is = Last was.line (unread was) None
 
 -- what a row that is held says
 abbrev pub row_says : RowHeld → Row

@@ -33,12 +33,14 @@ pub struct Fault {
 }
 
 impl Fault {
+    // A fault of the whole sheet.
     pub(crate) fn of_sheet(reason: Reason) -> Fault
         ensures { result ≡ fault_of_sheet reason }
     {
         Fault::of_line(reason, 0)
     }
 
+    // A fault of a whole line.
     pub(crate) fn of_line(reason: Reason, line: u32) -> Fault
         ensures { result ≡ fault_of_line reason line }
     {

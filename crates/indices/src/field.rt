@@ -1,8 +1,7 @@
 // A field of a line, and its value: 1 to 7 decimal digits.
 ghost use Rattle.std.specs.Prelude.{◌≡◌, ◌≤◌, true, length, Some, None, MatchResult};
-ghost use Rattle.indices.specs.Byte.{kind};
 ghost use Rattle.indices.specs.Fault.{fault_at};
-ghost use Rattle.indices.specs.Value.{digit, digits, value, wrong, located};
+ghost use Rattle.indices.specs.Value.{digits, value, wrong, located};
 
 use crate::byte::Kind;
 use crate::fault::{Fault, Reason};
@@ -18,16 +17,10 @@ pub struct Field<'a> {
     pub place: u32,
 }
 
-fn is_digit(b: u8) -> bool
-    ensures { result ≡ digit (kind b) }
-{
-    matches!(Kind::from(b), Kind::Digit(_))
-}
-
 fn all_digits(bytes: &[u8]) -> bool
     ensures { result ≡ digits bytes.now }
 {
-    bytes.iter().all(|b| is_digit(*b))
+    bytes.iter().all(|b| Kind::from(*b).is_digit())
 }
 
 fn number(bytes: &[u8]) -> u32

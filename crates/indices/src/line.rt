@@ -1,8 +1,8 @@
 // The values of a line below line 1.
-ghost use Rattle.std.specs.Prelude.{◌≡◌, List, Some, MatchResult};
+ghost use Rattle.std.specs.Prelude.{◌≡◌, List, Some, None, MatchOption, MatchResult};
 ghost use Rattle.indices.specs.declared.names.Column.{Column};
-ghost use Rattle.indices.specs.Reader.{unread, AtStart};
-ghost use Rattle.indices.specs.Rows.{LineRead};
+ghost use Rattle.indices.specs.Reader.{unread, AtStart, Last};
+ghost use Rattle.indices.specs.Rows.{ValuesRead};
 ghost use Rattle.indices.specs.Sheet.{no_rows, below};
 
 use crate::fault::Fault;
@@ -19,7 +19,7 @@ pub type Values = ArrayVec<u32, MOST_VALUES>;
 // The values of the next line, or none at the end of the sheet.
 pub(crate) fn read_values(reader: &mut Reader) -> Result<Option<Values>, Fault>
     requires { AtStart reader.old }
-    ensures { MatchResult result (λ values. LineRead reader.old values reader.new) (λ fault. (columns : List Column) → below columns reader.old.line (unread reader.old) ≡ no_rows (Some fault)) }
+    ensures { MatchResult result (λ o. MatchOption o (Last reader.old.line (unread reader.old) None) (λ values. ValuesRead reader.old values.items reader.new)) (λ fault. (columns : List Column) → below columns reader.old.line (unread reader.old) ≡ no_rows (Some fault)) }
 {
     let mut values = Values::new();
     loop {

@@ -8,32 +8,18 @@ use crate::byte::Kind;
 use crate::fault::{Fault, Reason};
 use crate::field::Field;
 
-// Whether a byte ends a line.
-fn feeds(b: u8) -> bool
-    ensures { result ≡ feed (kind b) }
-{
-    matches!(Kind::from(b), Kind::LineFeed)
-}
-
-// Whether a byte ends a field.
-fn ends_field(b: u8) -> bool
-    ensures { result ≡ ends (kind b) }
-{
-    matches!(Kind::from(b), Kind::Comma | Kind::LineFeed)
-}
-
 // Whether the line that the bytes begin with has its line feed.
 fn has_line_feed(bytes: &[u8]) -> bool
     ensures { result ≡ list_any (λ b. feed (kind b)) bytes.now }
 {
-    bytes.iter().any(|b| feeds(*b))
+    bytes.iter().any(|b| Kind::from(*b).ends_line())
 }
 
 // The place of the first byte that ends a field.
 fn field_end(bytes: &[u8]) -> Option<usize>
     ensures { result ≡ position (λ b. ends (kind b)) bytes.now }
 {
-    bytes.iter().position(|b| ends_field(*b))
+    bytes.iter().position(|b| Kind::from(*b).ends_field())
 }
 
 // What is left of a sheet to read.
@@ -87,7 +73,7 @@ impl<'a> Reader<'a> {
     {
         let rest = self.rest;
         let length = field_end(rest).unwrap();
-        self.ended = feeds(rest[length]);
+        self.ended = Kind::from(rest[length]).ends_line();
         self.rest = &rest[length + 1..];
         self.place += 1;
         Token::Field(Field {

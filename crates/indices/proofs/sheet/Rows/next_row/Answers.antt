@@ -1,7 +1,8 @@
-use Rattle.std.proofs.Common.{sym, refl, ap, ◌∙◌, subst}
+use Rattle.std.proofs.Common.{sym, refl, ap, ◌∙◌}
+use Rattle.std.proofs.lemmas.Option.{MatchOption-at_some}
 use Rattle.std.proofs.lemmas.Result.{err_from_is_err_and}
 use Rattle.indices.specs.Row.{row_of}
-use Rattle.indices.specs.Rows.{ValuesRead, LineRead}
+use Rattle.indices.specs.Rows.{ValuesRead}
 use Rattle.indices.specs.Sheet.{rate_fault}
 use Rattle.indices.proofs.Next.{remaining_unread, not_five, judged, row_read}
 use Rattle.indices.proofs.sheet.Rows.next_row.Goals as goal
@@ -9,7 +10,7 @@ use Rattle.indices.proofs.sheet.Rows.next_row.Goals.{In-Some}
 
 -- what `read_values` said of the line
 read : (c : In-Some) → ValuesRead c.args.self.now.reader c.in-Some.values.items c.read_values.new.reader
-read c = subst (λ v. LineRead c.args.self.now.reader v c.read_values.new.reader) c.in-Some.is c.in_ok-values.ensures
+read c = MatchOption-at_some _ (λ values. ValuesRead c.args.self.now.reader values.items c.read_values.new.reader) _ c.in-Some.is c.in_ok-values.ensures
 
 pub returns-in_err-values : goal.returns-in_err-values
 returns-in_err-values c =

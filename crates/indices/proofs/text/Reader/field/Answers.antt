@@ -1,5 +1,6 @@
 use Rattle.std.proofs.Common.{◌≡◌, ◌+◌, length, sym, refl, ap, ◌∙◌, subst, arith, length-drop}
 use Rattle.std.proofs.lemmas.List.{take_rest}
+use Rattle.indices.specs.Text.{feed}
 use Rattle.indices.proofs.Lines.{Cut, first_cut, first_end, first_end_is, complete_behind}
 use Rattle.indices.proofs.Reading.{field_read}
 use Rattle.indices.proofs.text.Reader.field.Goals as goal
@@ -22,10 +23,10 @@ invariant_of-self c =
     record {
       fits = omega (arith, here.within, c.args.self.now.fits);
       begun = λ _. omega arith;
-      whole = λ _ on. rw rest (complete_behind _ _ here c.requires.whole (sym c.feeds-self.ensures ∙ on));
+      whole = λ _ on. rw rest (complete_behind _ _ here c.requires.whole (ap feed (sym c.from.ensures) ∙ (sym c.ends_line-self.ensures ∙ on)));
     }
 
 pub returns : goal.returns
 returns c =
     field_read c.args.self.now _ c.unwrap-length.result c.requires.unended c.requires.whole (cut (goal.at.returns c).After-unwrap-length)
-    (record { rest = take_rest c.args.self.now.rest.now _; line = refl; place = refl; ended = c.feeds-self.ensures })
+    (record { rest = take_rest c.args.self.now.rest.now _; line = refl; place = refl; ended = c.ends_line-self.ensures ∙ ap feed c.from.ensures })
