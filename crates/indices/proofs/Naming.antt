@@ -1,7 +1,6 @@
 -- What a sheet says while line 1 is being read. Assumes nothing.
-use Rattle.std.proofs.Common.{◌≡◌, ℕ, ◌+◌, ◌<◌, true, false, cond, List, [], ◌∷◌, ◌++◌, length, Some, None, Ok, Err, Option, Result, IsOk, IfOk, IsErrAnd, MatchResult, ◌↔◌, sym, refl, ap, ◌∙◌, subst, ⊎_elim, arith}
+use Rattle.std.proofs.Common.{◌≡◌, ℕ, ◌+◌, ◌<◌, true, false, cond, List, [], ◌∷◌, ◌++◌, length, Some, None, Ok, Err, Option, Result, IsOk, IfOk, IsErrAnd, MatchResult, ◌↔◌, sym, refl, ap, ◌∙◌, subst, arith}
 use Rattle.std.proofs.lemmas.Result.{err_from_is_err_and}
-use Rattle.std.proofs.lemmas.Bool.{both_ways, cases_Bool, cond-true, cond-false}
 use Rattle.indices.specs.declared.fault.Fault.{Fault}
 use Rattle.indices.specs.declared.fault.Reason.TheVariants.{Names}
 use Rattle.indices.specs.declared.names.Column.{Column}
@@ -23,40 +22,23 @@ named before place [] = no_rows None
 named before place (l ∷ []) = no_rows (final 1 l)
 named before place (l ∷ m ∷ ls) = below_names (order before place l) (m ∷ ls)
 
-abbrev next : List Column → ℕ → Line → List Line → Option Column → Sheet
-next before place l ls None = below_names (Err place) ls
-next before place l ls (Some c) = below_names (order (before ++ (c ∷ [])) (place + 1) l) ls
-
-named_field : (before : List Column) (place : ℕ) (f : List ℕ) (l m : Line) (ls : List Line) (o : Option Column) → fresh before (column f) ≡ o → named before place ((f ∷ l) ∷ m ∷ ls) ≡ next before place l (m ∷ ls) o
-named_field before place f l m ls None h =
-    ap (λ (o : Option Column). below_names (elim o [ None ↦ Err place | Some c ↦ order (before ++ (c ∷ [])) (place + 1) l ]) (m ∷ ls)) h
-named_field before place f l m ls (Some c) h =
-    ap (λ (o : Option Column). below_names (elim o [ None ↦ Err place | Some c ↦ order (before ++ (c ∷ [])) (place + 1) l ]) (m ∷ ls)) h
-
 named_wrong : (before : List Column) (place : ℕ) (f : List ℕ) (ls : List Line) → complete ls ≡ true → fresh before (column f) ≡ None → named before place (with_field f ls) ≡ below_names (Err place) ls
-named_wrong before place f [] whole h = absurd (both_ways false refl whole)
-named_wrong before place f (l ∷ []) whole h = absurd (both_ways false refl whole)
-named_wrong before place f (l ∷ m ∷ ls) whole h = named_field before place f l m ls None h
+named_wrong before place f [] whole h = cc
+named_wrong before place f (l ∷ []) whole h = cc
+named_wrong before place f (l ∷ m ∷ ls) whole h = rw (h, order, below_names)
 
 named_next : (before : List Column) (place : ℕ) (f : List ℕ) (ls : List Line) (c : Column) → complete ls ≡ true → fresh before (column f) ≡ Some c → named before place (with_field f ls) ≡ named (before ++ (c ∷ [])) (place + 1) ls
-named_next before place f [] c whole h = absurd (both_ways false refl whole)
-named_next before place f (l ∷ []) c whole h = absurd (both_ways false refl whole)
-named_next before place f (l ∷ m ∷ ls) c whole h = named_field before place f l m ls (Some c) h
-
-no_lines : {l : Line} {ls : List Line} → [] ≡ l ∷ ls → ⊥
-no_lines e = let n : ◌≡◌ {A = ℕ} 0 1 = cc in omega arith
+named_next before place f [] c whole h = cc
+named_next before place f (l ∷ []) c whole h = cc
+named_next before place f (l ∷ m ∷ ls) c whole h = rw (h, order, below_names)
 
 named_over : (before : List Column) (place : ℕ) (ls : List Line) → Begun ls → named before place ([] ∷ ls) ≡ below_names (cond (all before) (Ok before) (Err 0)) ls
-named_over before place [] h = absurd (no_lines h.is)
+named_over before place [] h = let e = h.is in cc
 named_over before place (l ∷ ls) h = refl
 
 new_among : (before : List Column) (o : Option Column) (c : Column) → fresh before o ≡ Some c → among c before ≡ false
-new_among before None c h = let z : ◌≡◌ {A = ℕ} 0 1 = cc in absurd (omega arith)
-new_among before (Some d) c h =
-    ⊎_elim
-    (λ e. let f = sym (cond-true (among d before) None (Some d) e) ∙ h in let z : ◌≡◌ {A = ℕ} 0 1 = cc in absurd (omega arith))
-    (λ e. let f = sym (cond-false (among d before) None (Some d) e) ∙ h in let g : d ≡ c = cc in ap (λ x. among x before) (sym g) ∙ e)
-    (cases_Bool (among d before))
+new_among before None c h = cc
+new_among before (Some d) c h = grind arith
 
 -- line 1 of what `was` has unread is being read, and these are its columns so far
 pub record Naming (was is : Reader) (columns : List Column) : Type 0 where
