@@ -1,7 +1,7 @@
 -- Laws of columns: among others or not, and no more than five apart. Assumes nothing.
 use Rattle.std.proofs.Common.{◌≡◌, ℕ, ◌+◌, ◌<◌, ◌≤◌, true, false, cond, ◌||◌, eqb, List, [], ◌∷◌, ◌++◌, length, sym, refl, ap, ◌∙◌, ⊎_elim, arith}
 use Rattle.std.proofs.lemmas.List.{length_push}
-use Rattle.std.proofs.lemmas.Bool.{both_ways, eqb-true, cases_Bool, or_parts, and_parts, and_from}
+use Rattle.std.proofs.lemmas.Bool.{eqb-true, cases_Bool, or_parts, and_parts, and_from}
 use Rattle.indices.specs.declared.names.Column.{Column}
 use Rattle.indices.specs.declared.names.Column.TheVariants.{Id, Cap, Rate, Part, Prate}
 use Rattle.indices.specs.Names.{index, same, among, all}
@@ -28,7 +28,7 @@ count_none c [] h = refl
 count_none c (d ∷ ds) h = let p = or_parts (same d c) (among c ds) h in rw p.0 (omega (arith, count_none c ds p.1))
 
 count_some : (c : Column) (cs : List Column) → among c cs ≡ true → 1 ≤ count (index c) cs
-count_some c [] h = absurd (both_ways false refl h)
+count_some c [] h = cc
 count_some c (d ∷ ds) h =
     ⊎_elim (λ e. rw e (omega arith)) (λ e. omega (arith, count_some c ds (ap (λ t. t || among c ds) (sym e) ∙ h))) (cases_Bool (same d c))
 

@@ -49,7 +49,7 @@ not_blank (b ∷ bs) l h e =
 
 pub only_line : (l : Line) (ls : List Line) → complete (l ∷ ls) ≡ false → ls ≡ []
 only_line l [] h = refl
-only_line l (m ∷ ls) h = absurd (both_ways true h refl)
+only_line l (m ∷ ls) h = cc
 
 complete_byte : (b : ℕ) (ls : List Line) → complete (with_byte b ls) ≡ complete ls
 complete_byte b [] = refl
@@ -59,7 +59,7 @@ complete_byte b ([] ∷ m ∷ ls) = refl
 complete_byte b ((f ∷ fs) ∷ m ∷ ls) = refl
 
 complete_begun : (k : Kind) (b : ℕ) (ls : List Line) → feed k ≡ false → complete (begun k b ls) ≡ complete ls
-complete_begun LineFeed b ls h = absurd (both_ways true h refl)
+complete_begun LineFeed b ls h = cc
 complete_begun Comma b [] h = refl
 complete_begun Comma b (l ∷ []) h = refl
 complete_begun Comma b (l ∷ m ∷ ls) h = refl
@@ -68,9 +68,9 @@ complete_begun Other b ls h = complete_byte b ls
 
 complete_fed : (k : Kind) (b : ℕ) (bs : List ℕ) → feed k ≡ true → complete (begun k b (lines bs)) ≡ true
 complete_fed LineFeed b bs h = let l = lines_begun bs in rw l.is refl
-complete_fed Comma b bs h = absurd (both_ways false refl h)
-complete_fed (Digit d) b bs h = absurd (both_ways false refl h)
-complete_fed Other b bs h = absurd (both_ways false refl h)
+complete_fed Comma b bs h = cc
+complete_fed (Digit d) b bs h = cc
+complete_fed Other b bs h = cc
 
 -- a line has its line feed where any byte is one
 pub complete_any : (bs : List ℕ) → complete (lines bs) ≡ list_any (λ b. feed (kind b)) bs
@@ -97,8 +97,8 @@ with_byte_field b f [] = refl
 with_byte_field b f (l ∷ ls) = refl
 
 begun_in : (k : Kind) (b : ℕ) (ls : List Line) → ends k ≡ false → begun k b ls ≡ with_byte b ls
-begun_in Comma b ls h = absurd (both_ways true h refl)
-begun_in LineFeed b ls h = absurd (both_ways true h refl)
+begun_in Comma b ls h = cc
+begun_in LineFeed b ls h = cc
 begun_in (Digit d) b ls h = refl
 begun_in Other b ls h = refl
 
@@ -109,8 +109,8 @@ behind fed ls = cond fed ([] ∷ ls) ls
 begun_end : (k : Kind) (b : ℕ) (ls : List Line) → ends k ≡ true → begun k b ls ≡ with_field [] (behind (feed k) ls)
 begun_end Comma b ls h = refl
 begun_end LineFeed b ls h = refl
-begun_end (Digit d) b ls h = absurd (both_ways false refl h)
-begun_end Other b ls h = absurd (both_ways false refl h)
+begun_end (Digit d) b ls h = cc
+begun_end Other b ls h = cc
 
 -- the first n bytes are inside a field, and the next ends it
 pub record Cut (bs : List ℕ) (n : ℕ) : Type 0 where

@@ -19,17 +19,18 @@ use Rattle.indices.specs.Sheet.{Sheet, no_rows}
 abbrev pub left : Ledger → ℕ → Option Report → Intake
 left l n fault = record { ledger = l; added = n; fault = fault }
 
-abbrev step : (ℕ → ℕ → ℕ) → List Row → Option Report → Ledger → ℕ → Row → Option ℕ → Intake
-step answer rows fault l n row None = taken answer rows fault (after_row answer l row) (n + 1)
-step answer rows fault l n row (Some number) = left l n (Some (refused_row row.line number))
+-- what is taken from a row on, by what the fleet says of the row
+abbrev step : (ℕ → ℕ → ℕ) → Row → List Row → Option Report → Ledger → ℕ → Option ℕ → Intake
+step answer row rows fault l n o =
+    elim o [ None ↦ taken answer rows fault (after_row answer l row) (n + 1) | Some number ↦ left l n (Some (refused_row row.line number)) ]
 
-taken_more : (answer : ℕ → ℕ → ℕ) (row : Row) (rows : List Row) (fault : Option Report) (l : Ledger) (n : ℕ) → taken answer (row ∷ rows) fault l n ≡ step answer rows fault l n row (row_refusal l row)
+taken_next : (answer : ℕ → ℕ → ℕ) (row : Row) (rows : List Row) (fault : Option Report) (l : Ledger) (n : ℕ) → row_refusal l row ≡ None → taken answer (row ∷ rows) fault l n ≡ taken answer rows fault (after_row answer l row) (n + 1)
 unfolding taken
-taken_more answer row rows fault l n = at (row_refusal l row)
-  where
-    at : (o : Option ℕ) → elim o [ None ↦ taken answer rows fault (after_row answer l row) (n + 1) | Some number ↦ left l n (Some (refused_row row.line number)) ] ≡ step answer rows fault l n row o
-    at None = refl
-    at (Some number) = refl
+taken_next answer row rows fault l n h = ap (step answer row rows fault l n) h
+
+taken_stop : (answer : ℕ → ℕ → ℕ) (row : Row) (rows : List Row) (fault : Option Report) (l : Ledger) (n number : ℕ) → row_refusal l row ≡ Some number → taken answer (row ∷ rows) fault l n ≡ left l n (Some (refused_row row.line number))
+unfolding taken
+taken_stop answer row rows fault l n number h = ap (step answer row rows fault l n) h
 
 -- the sheet ends, with a fault or without
 pub taken_rowless : (answer : ℕ → ℕ → ℕ) (s : Sheet) (fault : Option Fault) (l : Ledger) (n : ℕ) → s ≡ no_rows fault → taken_sheet answer s l n ≡ left l n (option_map report fault)
@@ -37,37 +38,24 @@ unfolding taken
 taken_rowless answer s fault l n h = ap (λ t. taken_sheet answer t l n) h
 
 refused_keeps : {A : Type 0} (o : Option ℕ) (number : ℕ) (before after : A) → o ≡ Some number → unless o before after ≡ before
-refused_keeps o number before after h = ap (λ r. unless r before after) h
+refused_keeps o number before after h = ap (λ o. unless o before after) h
 
--- one row more
-module _ (answer : ℕ → ℕ → ℕ) (was is : Rows) (row : Row) (read : RowRead was row is) (l : Ledger) (n : ℕ) where
-  next : taken_sheet answer (remaining was) l n ≡ step answer (remaining is).rows (option_map report (remaining is).fault) l n row (row_refusal l row)
-  next = ap (λ rs. taken answer rs (option_map report (remaining was).fault) l n) read.rows
-      ∙ ap (λ f. taken answer (row ∷ (remaining is).rows) (option_map report f) l n) read.fault
-      ∙ taken_more answer row (remaining is).rows (option_map report (remaining is).fault) l n
+-- one row more, with the ledger that the add left
+module _ (answer : ℕ → ℕ → ℕ) (was is : Rows) (row : Row) (read : RowRead was row is) (l : Ledger) (n : ℕ) (m : Ledger) (after : m ≡ after_row answer l row) where
+  next : taken_sheet answer (remaining was) l n ≡ taken answer (row ∷ (remaining is).rows) (option_map report (remaining is).fault) l n
+  next = (λ i. taken answer (read.rows i) (option_map report (read.fault i)) l n)
 
-  accepted : row_refusal l row ≡ None → taken_sheet answer (remaining was) l n ≡ taken_sheet answer (remaining is) (after_row answer l row) (n + 1)
-  accepted h = next ∙ ap (step answer (remaining is).rows (option_map report (remaining is).fault) l n row) h
+  pub taken_accepted : row_refusal l row ≡ None → taken_sheet answer (remaining is) m (n + 1) ≡ taken_sheet answer (remaining was) l n
+  taken_accepted h = rw after (sym (next ∙ taken_next answer row _ _ l n h))
 
   -- a refused row leaves the ledger
-  refused : (told : Report) → option_map (refused_row row.line) (row_refusal l row) ≡ Some told → taken_sheet answer (remaining was) l n ≡ left (after_row answer l row) n (Some told)
-  refused told h = at (row_refusal l row) refl h
+  pub taken_refused : (told : Report) → option_map (refused_row row.line) (row_refusal l row) ≡ Some told → left m n (Some told) ≡ taken_sheet answer (remaining was) l n
+  taken_refused told h = at (row_refusal l row) refl h
     where
-      at : (o : Option ℕ) → row_refusal l row ≡ o → option_map (refused_row row.line) o ≡ Some told → taken_sheet answer (remaining was) l n ≡ left (after_row answer l row) n (Some told)
-      at None is' h' = absurd (let z : ◌≡◌ {A = ℕ} 0 1 = cc in omega arith)
+      at : (o : Option ℕ) → row_refusal l row ≡ o → option_map (refused_row row.line) o ≡ Some told → left m n (Some told) ≡ taken_sheet answer (remaining was) l n
+      at None is' h' = cc
       at (Some number) is' h' =
-          next
-          ∙ ap (step answer (remaining is).rows (option_map report (remaining is).fault) l n row) is'
-          ∙ ap (λ f. left l n f) h'
-          ∙ ap (λ m. left m n (Some told)) (sym (refused_keeps (row_refusal l row) number l _ is'))
-
-  -- with the ledger that the add left
-  module _ (m : Ledger) (after : m ≡ after_row answer l row) where
-    pub taken_accepted : row_refusal l row ≡ None → taken_sheet answer (remaining is) m (n + 1) ≡ taken_sheet answer (remaining was) l n
-    taken_accepted h = ap (λ k. taken_sheet answer (remaining is) k (n + 1)) after ∙ sym (accepted h)
-
-    pub taken_refused : (told : Report) → option_map (refused_row row.line) (row_refusal l row) ≡ Some told → left m n (Some told) ≡ taken_sheet answer (remaining was) l n
-    taken_refused told h = ap (λ k. left k n (Some told)) after ∙ sym (refused told h)
+          (λ i. left ((after ∙ refused_keeps (row_refusal l row) number l _ is') i) n (sym h' i)) ∙ sym (next ∙ taken_stop answer row _ _ l n number is')
 
 -- each row that is added is one unit more
 grown : (answer : ℕ → ℕ → ℕ) (l : Ledger) (row : Row) → row_refusal l row ≡ None → length (after_row answer l row).units ≡ length l.units + 1
@@ -78,16 +66,14 @@ grown answer l row h =
 Grows : Intake → Ledger → ℕ → Type 0
 Grows i l n = length i.ledger.units + n ≡ length l.units + i.added
 
-grows_more : (answer : ℕ → ℕ → ℕ) (row : Row) (rows : List Row) (fault : Option Report) (l : Ledger) (n : ℕ) (o : Option ℕ) → row_refusal l row ≡ o → Grows (taken answer rows fault (after_row answer l row) (n + 1)) (after_row answer l row) (n + 1) → Grows (step answer rows fault l n row o) l n
-unfolding Grows
-grows_more answer row rows fault l n None h more = let one = grown answer l row h in omega arith
-grows_more answer row rows fault l n (Some number) h more = refl
-
 grows : (answer : ℕ → ℕ → ℕ) (rows : List Row) (fault : Option Report) (l : Ledger) (n : ℕ) → Grows (taken answer rows fault l n) l n
 unfolding taken Grows
 grows answer [] fault l n = refl
-grows answer (row ∷ rows) fault l n =
-    rw (taken_more answer row rows fault l n) (grows_more answer row rows fault l n (row_refusal l row) refl (grows answer rows fault (after_row answer l row) (n + 1)))
+grows answer (row ∷ rows) fault l n = at (row_refusal l row) refl (grows answer rows fault (after_row answer l row) (n + 1))
+  where
+    at : (o : Option ℕ) → row_refusal l row ≡ o → Grows (taken answer rows fault (after_row answer l row) (n + 1)) (after_row answer l row) (n + 1) → Grows (taken answer (row ∷ rows) fault l n) l n
+    at None h more = let one = grown answer l row h in rw (taken_next answer row rows fault l n h) (omega arith)
+    at (Some number) h more = rw (taken_stop answer row rows fault l n number h) refl
 
 -- from nothing added, the number added is the growth of the register
 pub growth : (answer : ℕ → ℕ → ℕ) (s : Sheet) (l after : Ledger) (added : ℕ) (fault : Option Report) → Took (taken_sheet answer s l 0) after added fault → length after.units ≡ length l.units + added

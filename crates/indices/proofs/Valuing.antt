@@ -1,14 +1,13 @@
 -- What is known while a line of values is being read. Assumes nothing.
-use Rattle.std.proofs.Common.{◌≡◌, ℕ, ◌+◌, ◌<◌, ◌≤◌, true, false, ◌⊎◌, List, [], ◌∷◌, ◌++◌, map, length, take, Some, None, Ok, Err, Option, Result, IsOk, OnOk, OnErr, ◌↔◌, inl, inr, sym, refl, ap, ◌∙◌, ⊎_elim, arith}
+use Rattle.std.proofs.Common.{◌≡◌, ℕ, ◌+◌, ◌<◌, ◌≤◌, true, ◌⊎◌, List, [], ◌∷◌, ◌++◌, map, length, take, Some, None, Ok, Err, Result, IsOk, OnOk, OnErr, ◌↔◌, inl, inr, sym, refl, ap, ◌∙◌, ⊎_elim, arith}
 use Rattle.std.specs.Option.{option_or}
 use Rattle.std.proofs.lemmas.List.{append_assoc, length_push, take-append-le}
-use Rattle.std.proofs.lemmas.Bool.{both_ways, cases_lt}
+use Rattle.std.proofs.lemmas.Bool.{cases_lt}
 use Rattle.indices.specs.declared.fault.Fault.{Fault}
 use Rattle.indices.specs.declared.names.Column.{Column}
 use Rattle.indices.specs.declared.text.Reader.{Reader}
 use Rattle.indices.specs.Reader.{unread, FieldRead}
-use Rattle.indices.specs.Row.{Row, row_of}
-use Rattle.indices.specs.Sheet.{no_rows, count_fault, rate_fault, with_row, below}
+use Rattle.indices.specs.Sheet.{no_rows, below}
 use Rattle.indices.specs.Text.{Line, with_field, complete}
 use Rattle.indices.specs.Value.{value, wrong, located, first_wrong}
 use Rattle.indices.proofs.Lines.{complete_field}
@@ -23,7 +22,7 @@ later [] = []
 later (l ∷ ls) = ls
 
 first_field : (f : List ℕ) (ls : List Line) → complete ls ≡ true → first (with_field f ls) ≡ f ∷ first ls
-first_field f [] h = absurd (both_ways false refl h)
+first_field f [] h = cc
 first_field f (l ∷ ls) h = refl
 
 later_field : (f : List ℕ) (ls : List Line) → later (with_field f ls) ≡ later ls
@@ -31,11 +30,9 @@ later_field f [] = refl
 later_field f (l ∷ ls) = refl
 
 below_wrong : (columns : List Column) (line : ℕ) (ls : List Line) (fault : Fault) → complete ls ≡ true → first_wrong line 1 (first ls) ≡ Some fault → below columns line ls ≡ no_rows (Some fault)
-below_wrong columns line [] fault whole h = absurd (both_ways false refl whole)
-below_wrong columns line (l ∷ []) fault whole h = absurd (both_ways false refl whole)
-below_wrong columns line (l ∷ m ∷ ls) fault whole h =
-    let row : Row = row_of columns line (map value l) in
-    ap (λ (o : Option Fault). with_row (option_or o (option_or (count_fault line l) (rate_fault row))) row (below columns (line + 1) (m ∷ ls))) h
+below_wrong columns line [] fault whole h = cc
+below_wrong columns line (l ∷ []) fault whole h = cc
+below_wrong columns line (l ∷ m ∷ ls) fault whole h = rw (h, below)
 
 -- a value is kept, where six are not kept yet
 pub Kept : List ℕ → ℕ → List ℕ → Type 0
