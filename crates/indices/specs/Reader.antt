@@ -11,6 +11,7 @@ use Rattle.indices.specs.Text.{Line, with_field, lines}
 abbrev pub unread : Reader → List Line
 unread r = cond r.ended ([] ∷ lines r.rest.now) (lines r.rest.now)
 
+-- a field is read, and the byte that ends it
 pub record FieldRead (was : Reader) (bytes : List ℕ) (line place : ℕ) (is : Reader) : Type 0 where
   pub text : unread was ≡ with_field bytes (unread is)
   pub line_is : line ≡ was.line
@@ -19,6 +20,7 @@ pub record FieldRead (was : Reader) (bytes : List ℕ) (line place : ℕ) (is : 
   pub next_place : is.place ≡ was.place + 1
   pub shorter : length is.rest.now < length was.rest.now
 
+-- the line is at its end, and the reader goes on to the next
 pub record LineEnded (was is : Reader) : Type 0 where
   pub text : unread was ≡ [] ∷ unread is
   pub next_line : is.line ≡ was.line + 1
@@ -33,6 +35,7 @@ pub record Last (line : ℕ) (ls : List Line) (fault : Option Fault) : Type 0 wh
   pub text : ls ≡ last ∷ []
   pub is : final line last ≡ fault
 
+-- what each token says, and what a fault says
 abbrev pub Reads : Reader → Result Token Fault → Reader → Type 0
 Reads was (Ok (Field field)) is = FieldRead was field.bytes.now field.line field.place is
 Reads was (Ok LineEnd) is = LineEnded was is

@@ -35,6 +35,7 @@ row_of order line vs =
 abbrev pub rates_fit : ℕ → ℕ → ℕ → Bool
 rates_fit rate part prate = nat_le (rate + prate) 999999 && cond (part == 0) (prate == 0) (not (prate == 0))
 
+-- so it is for the rates of this row
 abbrev pub rates : Row → Bool
 rates r = rates_fit r.rate r.part r.prate
 
