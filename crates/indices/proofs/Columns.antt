@@ -1,49 +1,21 @@
--- Laws of columns: equal or not, among others or not, and no more than five apart. Assumes nothing.
-use Rattle.std.proofs.Common.{◌≡◌, ℕ, ◌+◌, ◌<◌, ◌≤◌, true, false, cond, ◌||◌, eqb, List, [], ◌∷◌, ◌++◌, length, get_or, drop, sym, refl, ap, ◌∙◌, ⊎_elim, arith}
-use Rattle.std.proofs.lemmas.List.{at_drop_more, length_push}
-use Rattle.std.proofs.lemmas.Bool.{both_ways, eqb-true, ne_eqb, eq-eqb, cases_Bool, or_parts, or_left, and_parts, and_from}
+-- Laws of columns: among others or not, and no more than five apart. Assumes nothing.
+use Rattle.std.proofs.Common.{◌≡◌, ℕ, ◌+◌, ◌<◌, ◌≤◌, true, false, cond, ◌||◌, eqb, List, [], ◌∷◌, ◌++◌, length, sym, refl, ap, ◌∙◌, ⊎_elim, arith}
+use Rattle.std.proofs.lemmas.List.{length_push}
+use Rattle.std.proofs.lemmas.Bool.{eqb-true, cases_Bool, or_parts, and_parts, and_from}
 use Rattle.indices.specs.declared.names.Column.{Column}
 use Rattle.indices.specs.declared.names.Column.TheVariants.{Id, Cap, Rate, Part, Prate}
 use Rattle.indices.specs.Names.{index, same, among, all}
 
-at_index : ℕ → Column
-at_index n = cond (eqb n 0) Id (cond (eqb n 1) Cap (cond (eqb n 2) Rate (cond (eqb n 3) Part Prate)))
-
-at_index_of : (c : Column) → at_index (index c) ≡ c
-unfolding at_index
-at_index_of Id = refl
-at_index_of Cap = refl
-at_index_of Rate = refl
-at_index_of Part = refl
-at_index_of Prate = refl
-
-pub equal_from_same : (c d : Column) → same c d ≡ true → c ≡ d
-equal_from_same c d h = sym (at_index_of c) ∙ ap at_index (eqb-true (index c) (index d) h) ∙ at_index_of d
-
-pub same_from_equal : (c d : Column) → c ≡ d → same c d ≡ true
-same_from_equal c d e = eq-eqb (index c) (index d) (ap index e)
-
-pub same_not : (c d : Column) → (c ≡ d → ⊥) → same c d ≡ false
-same_not c d h =
-    ne_eqb (index c) (index d) (λ e. h (equal_from_same c d (eq-eqb (index c) (index d) e)))
-
--- a column that is c settles it, and any other leaves it to those behind
-pub among_here : (c : Column) (ds : List Column) (i : ℕ) (z : Column) → i < length ds → c ≡ get_or ds i z → among c (drop i ds) ≡ true
-among_here c ds i z h e = at_drop_more (among c) ds i z h ∙ or_left _ _ (same_from_equal c (get_or ds i z) e)
-
-pub among_on : (c : Column) (ds : List Column) (i : ℕ) (z : Column) → i < length ds → (c ≡ get_or ds i z → ⊥) → among c (drop i ds) ≡ among c (drop (i + 1) ds)
-among_on c ds i z h e =
-    at_drop_more (among c) ds i z h ∙ ap (λ t. t || among c (drop (i + 1) ds)) (same_not c (get_or ds i z) e)
-
-abbrev count : Column → List Column → ℕ
-count c [] = 0
-count c (d ∷ ds) = cond (same c d) 1 0 + count c ds
+-- how many of the columns have an index
+abbrev count : ℕ → List Column → ℕ
+count i [] = 0
+count i (d ∷ ds) = cond (eqb (index d) i) 1 0 + count i ds
 
 -- each column stands at most once
 abbrev pub Once : List Column → Type 0
-Once cs = (c : Column) → count c cs ≤ 1
+Once cs = (i : ℕ) → count i cs ≤ 1
 
-counts : (cs : List Column) → length cs ≡ count Id cs + (count Cap cs + (count Rate cs + (count Part cs + count Prate cs)))
+counts : (cs : List Column) → length cs ≡ count 0 cs + (count 1 cs + (count 2 cs + (count 3 cs + count 4 cs)))
 counts [] = refl
 counts (Id ∷ cs) = omega (arith, counts cs)
 counts (Cap ∷ cs) = omega (arith, counts cs)
@@ -51,32 +23,29 @@ counts (Rate ∷ cs) = omega (arith, counts cs)
 counts (Part ∷ cs) = omega (arith, counts cs)
 counts (Prate ∷ cs) = omega (arith, counts cs)
 
-count_none : (c : Column) (cs : List Column) → among c cs ≡ false → count c cs ≡ 0
+count_none : (c : Column) (cs : List Column) → among c cs ≡ false → count (index c) cs ≡ 0
 count_none c [] h = refl
-count_none c (d ∷ ds) h = let p = or_parts (same c d) (among c ds) h in rw p.0 (omega (arith, count_none c ds p.1))
+count_none c (d ∷ ds) h = let p = or_parts (same d c) (among c ds) h in rw p.0 (omega (arith, count_none c ds p.1))
 
-count_some : (c : Column) (cs : List Column) → among c cs ≡ true → 1 ≤ count c cs
-count_some c [] h = absurd (both_ways false refl h)
+count_some : (c : Column) (cs : List Column) → among c cs ≡ true → 1 ≤ count (index c) cs
+count_some c [] h = cc
 count_some c (d ∷ ds) h =
-    ⊎_elim (λ e. rw e (omega arith)) (λ e. omega (arith, count_some c ds (ap (λ t. t || among c ds) (sym e) ∙ h))) (cases_Bool (same c d))
+    ⊎_elim (λ e. rw e (omega arith)) (λ e. omega (arith, count_some c ds (ap (λ t. t || among c ds) (sym e) ∙ h))) (cases_Bool (same d c))
 
-count_push : (c d : Column) (cs : List Column) → count c (cs ++ (d ∷ [])) ≡ count c cs + cond (same c d) 1 0
-count_push c d [] = omega arith
-count_push c d (e ∷ cs) = omega (arith, count_push c d cs)
-
-pub once_none : Once []
-once_none c = omega arith
+count_push : (i : ℕ) (d : Column) (cs : List Column) → count i (cs ++ (d ∷ [])) ≡ count i cs + cond (eqb (index d) i) 1 0
+count_push i d [] = omega arith
+count_push i d (e ∷ cs) = omega (arith, count_push i d cs)
 
 pub once_push : (cs : List Column) (c : Column) → Once cs → among c cs ≡ false → Once (cs ++ (c ∷ []))
-once_push cs c once new d =
-    rw (count_push d c cs)
+once_push cs c once new i =
+    rw (count_push i c cs)
     (⊎_elim
-    (λ e. rw e (omega (arith, count_none c cs new, ap (λ x. count x cs) (equal_from_same d c e))))
-    (λ e. rw e (omega (arith, once d)))
-    (cases_Bool (same d c)))
+    (λ e. rw e (omega (arith, count_none c cs new, ap (λ j. count j cs) (eqb-true (index c) i e))))
+    (λ e. rw e (omega (arith, once i)))
+    (cases_Bool (eqb (index c) i)))
 
 pub five_at_most : (cs : List Column) → Once cs → length cs ≤ 5
-five_at_most cs once = omega (arith, counts cs, once Id, once Cap, once Rate, once Part, once Prate)
+five_at_most cs once = omega (arith, counts cs, once 0, once 1, once 2, once 3, once 4)
 
 -- so there is room for one that does not stand there yet
 pub room : (cs : List Column) (c : Column) → Once cs → among c cs ≡ false → length cs < 5

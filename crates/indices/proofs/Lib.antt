@@ -4,7 +4,6 @@ pub mod Digits
 pub mod Columns
 pub mod Naming
 pub mod Valuing
-pub mod Placed
 pub mod Next
 pub mod Taking
 pub mod Loading

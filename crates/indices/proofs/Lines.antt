@@ -1,7 +1,8 @@
 -- Laws of a text's lines. Assumes nothing.
-use Rattle.std.proofs.Common.{◌≡◌, ℕ, zero, suc, ◌+◌, ◌<◌, ◌≤◌, Bool, true, false, cond, ◌⊎◌, List, [], ◌∷◌, length, get_or, take, drop, sym, refl, ap, ◌∙◌, ⊎_elim, add-one, arith}
-use Rattle.std.proofs.lemmas.List.{at_drop_more, at_drop_all}
-use Rattle.std.proofs.lemmas.Bool.{both_ways, cases_lt}
+use Rattle.std.proofs.Common.{◌≡◌, ℕ, zero, suc, ◌+◌, ◌<◌, Bool, true, false, cond, ◌||◌, List, [], ◌∷◌, length, get_or, take, drop, Some, sym, refl, ap, ◌∙◌, ⊎_elim, add-one, arith}
+use Rattle.std.specs.List.{list_any, position, position_or_len}
+use Rattle.std.proofs.lemmas.List.Sums.{fails_before_first, passes_at_first}
+use Rattle.std.proofs.lemmas.Bool.{both_ways, cases_lt, cases_Bool, or_left, cond-true, lt-ltb}
 use Rattle.indices.specs.declared.byte.Kind.{Kind}
 use Rattle.indices.specs.declared.byte.Kind.TheVariants.{Comma, LineFeed, Digit, Other}
 use Rattle.indices.specs.Byte.{kind}
@@ -48,7 +49,7 @@ not_blank (b ∷ bs) l h e =
 
 pub only_line : (l : Line) (ls : List Line) → complete (l ∷ ls) ≡ false → ls ≡ []
 only_line l [] h = refl
-only_line l (m ∷ ls) h = absurd (both_ways true h refl)
+only_line l (m ∷ ls) h = cc
 
 complete_byte : (b : ℕ) (ls : List Line) → complete (with_byte b ls) ≡ complete ls
 complete_byte b [] = refl
@@ -58,7 +59,7 @@ complete_byte b ([] ∷ m ∷ ls) = refl
 complete_byte b ((f ∷ fs) ∷ m ∷ ls) = refl
 
 complete_begun : (k : Kind) (b : ℕ) (ls : List Line) → feed k ≡ false → complete (begun k b ls) ≡ complete ls
-complete_begun LineFeed b ls h = absurd (both_ways true h refl)
+complete_begun LineFeed b ls h = cc
 complete_begun Comma b [] h = refl
 complete_begun Comma b (l ∷ []) h = refl
 complete_begun Comma b (l ∷ m ∷ ls) h = refl
@@ -67,25 +68,18 @@ complete_begun Other b ls h = complete_byte b ls
 
 complete_fed : (k : Kind) (b : ℕ) (bs : List ℕ) → feed k ≡ true → complete (begun k b (lines bs)) ≡ true
 complete_fed LineFeed b bs h = let l = lines_begun bs in rw l.is refl
-complete_fed Comma b bs h = absurd (both_ways false refl h)
-complete_fed (Digit d) b bs h = absurd (both_ways false refl h)
-complete_fed Other b bs h = absurd (both_ways false refl h)
+complete_fed Comma b bs h = cc
+complete_fed (Digit d) b bs h = cc
+complete_fed Other b bs h = cc
 
--- a line feed completes the line, and any other byte leaves that to the bytes behind it
-pub complete_at : (bs : List ℕ) (i : ℕ) → i < length bs → feed (kind (get_or bs i 0)) ≡ true → complete (lines (drop i bs)) ≡ true
-complete_at bs i h e = at_drop_more (λ xs. complete (lines xs)) bs i 0 h ∙ complete_fed (kind (get_or bs i 0)) (get_or bs i 0) (drop (i + 1) bs) e
-
-pub complete_on : (bs : List ℕ) (i : ℕ) → i < length bs → feed (kind (get_or bs i 0)) ≡ false → complete (lines (drop i bs)) ≡ complete (lines (drop (i + 1) bs))
-complete_on bs i h e = at_drop_more (λ xs. complete (lines xs)) bs i 0 h ∙ complete_begun (kind (get_or bs i 0)) (get_or bs i 0) (lines (drop (i + 1) bs)) e
-
-pub complete_none : (bs : List ℕ) (i : ℕ) → length bs ≤ i → complete (lines (drop i bs)) ≡ false
-complete_none bs i h = at_drop_all (λ xs. complete (lines xs)) bs i h
-
-pub ends_field : (k : Kind) → (k ≡ Comma) ⊎ (k ≡ LineFeed) → ends k ≡ true
-ends_field k = ⊎_elim (ap ends) (ap ends)
-
-pub in_field : (k : Kind) → ((d : ℕ) × (k ≡ Digit d)) ⊎ (k ≡ Other) → ends k ≡ false
-in_field k = ⊎_elim (λ e. ap ends e.1) (ap ends)
+-- a line has its line feed where any byte is one
+pub complete_any : (bs : List ℕ) → complete (lines bs) ≡ list_any (λ b. feed (kind b)) bs
+complete_any [] = refl
+complete_any (b ∷ bs) =
+    ⊎_elim
+    (λ e. complete_fed (kind b) b bs e ∙ sym (or_left _ _ e))
+    (λ e. complete_begun (kind b) b (lines bs) e ∙ (complete_any bs ∙ ap (λ t. t || list_any (λ b. feed (kind b)) bs) (sym e)))
+    (cases_Bool (feed (kind b)))
 
 in_unfed : (k : Kind) → ends k ≡ false → feed k ≡ false
 in_unfed Comma h = refl
@@ -98,18 +92,13 @@ no_feed [] h = refl
 no_feed (b ∷ bs) h =
     complete_begun (kind b) b (lines bs) (in_unfed (kind b) (h 0 (omega arith))) ∙ no_feed bs (λ k lt. h (suc k) (omega arith))
 
--- in a line that has its line feed, something ends the field
-pub field_ends : (bs : List ℕ) (n : ℕ) → n ≤ length bs → ((k : ℕ) → k < n → ends (kind (get_or bs k 0)) ≡ false) → complete (lines bs) ≡ true → n < length bs
-field_ends bs n le inside whole =
-    ⊎_elim (λ h. h) (λ h. absurd (both_ways (complete (lines bs)) (no_feed bs (λ k lt. inside k (omega arith))) whole)) (cases_lt n (length bs))
-
 with_byte_field : (b : ℕ) (f : List ℕ) (ls : List Line) → with_byte b (with_field f ls) ≡ with_field (b ∷ f) ls
 with_byte_field b f [] = refl
 with_byte_field b f (l ∷ ls) = refl
 
 begun_in : (k : Kind) (b : ℕ) (ls : List Line) → ends k ≡ false → begun k b ls ≡ with_byte b ls
-begun_in Comma b ls h = absurd (both_ways true h refl)
-begun_in LineFeed b ls h = absurd (both_ways true h refl)
+begun_in Comma b ls h = cc
+begun_in LineFeed b ls h = cc
 begun_in (Digit d) b ls h = refl
 begun_in Other b ls h = refl
 
@@ -120,14 +109,29 @@ behind fed ls = cond fed ([] ∷ ls) ls
 begun_end : (k : Kind) (b : ℕ) (ls : List Line) → ends k ≡ true → begun k b ls ≡ with_field [] (behind (feed k) ls)
 begun_end Comma b ls h = refl
 begun_end LineFeed b ls h = refl
-begun_end (Digit d) b ls h = absurd (both_ways false refl h)
-begun_end Other b ls h = absurd (both_ways false refl h)
+begun_end (Digit d) b ls h = cc
+begun_end Other b ls h = cc
 
 -- the first n bytes are inside a field, and the next ends it
 pub record Cut (bs : List ℕ) (n : ℕ) : Type 0 where
   pub within : n < length bs
   pub inside : (k : ℕ) → k < n → ends (kind (get_or bs k 0)) ≡ false
   pub end : ends (kind (get_or bs n 0)) ≡ true
+
+-- how many bytes stand before the first that ends a field
+abbrev pub first_end : List ℕ → ℕ
+first_end bs = position_or_len (λ b. ends (kind b)) bs
+
+-- in a line that has its line feed, something ends the field
+pub first_cut : (bs : List ℕ) → complete (lines bs) ≡ true → Cut bs (first_end bs)
+first_cut bs whole =
+    let inside = λ (k : ℕ) (lt : k < first_end bs). fails_before_first (λ b. ends (kind b)) bs k 0 lt in
+    let within : first_end bs < length bs =
+    ⊎_elim (λ h. h) (λ h. absurd (both_ways (complete (lines bs)) (no_feed bs (λ k lt. inside k (omega arith))) whole)) (cases_lt (first_end bs) (length bs)) in
+    record { within = within; inside = inside; end = passes_at_first (λ b. ends (kind b)) bs 0 within }
+
+pub first_end_is : (bs : List ℕ) → complete (lines bs) ≡ true → position (λ b. ends (kind b)) bs ≡ Some (first_end bs)
+first_end_is bs whole = cond-true _ _ _ (lt-ltb _ _ (first_cut bs whole).within)
 
 field_is : (bs : List ℕ) (n : ℕ) → Cut bs n → lines bs ≡ with_field (take n bs) (behind (feed (kind (get_or bs n 0))) (lines (drop (suc n) bs)))
 field_is [] n cut = absurd (omega arith)
@@ -144,3 +148,8 @@ pub complete_field : (f : List ℕ) (ls : List Line) → complete (with_field f 
 complete_field f [] = refl
 complete_field f (l ∷ []) = refl
 complete_field f (l ∷ m ∷ ls) = refl
+
+-- where the field does not end the line, the line feed is still to come
+pub complete_behind : (bs : List ℕ) (n : ℕ) → Cut bs n → complete (lines bs) ≡ true → feed (kind (get_or bs n 0)) ≡ false → complete (lines (drop (n + 1) bs)) ≡ true
+complete_behind bs n cut whole on =
+    ap (λ t. complete (behind t (lines (drop (n + 1) bs)))) (sym on) ∙ (sym (complete_field (take n bs) (behind (feed (kind (get_or bs n 0))) (lines (drop (n + 1) bs)))) ∙ (ap complete (sym (field_text bs n cut)) ∙ whole))

@@ -1,16 +1,17 @@
 -- What a line of values says of the rows that are left. Assumes nothing.
-use Rattle.std.proofs.Common.{◌≡◌, ℕ, ◌+◌, true, false, List, ◌∷◌, map, length, Some, None, Option, sym, ap, ◌∙◌, subst}
+use Rattle.std.proofs.Common.{◌≡◌, ℕ, ◌+◌, min, List, ◌∷◌, map, length, Some, None, Option, sym, ap, ◌∙◌, subst, arith}
 use Rattle.std.specs.Option.{option_or}
-use Rattle.std.proofs.lemmas.Bool.{cond-true, cond-false, eq-eqb, ne_eqb, and_parts, leb-true}
+use Rattle.std.proofs.lemmas.List.{length-take, length-map, take_all}
+use Rattle.std.proofs.lemmas.Bool.{cond-true, cond-false, eq-eqb, ne_eqb}
 use Rattle.indices.specs.declared.fault.Fault.{Fault}
-use Rattle.indices.specs.declared.fault.Reason.TheVariants.{FieldCount, Rates}
-use Rattle.indices.specs.declared.line.Values.{Values}
+use Rattle.indices.specs.declared.fault.Reason.TheVariants.{FieldCount}
 use Rattle.indices.specs.declared.names.Column.{Column}
-use Rattle.indices.specs.declared.row.Row.{Row}
 use Rattle.indices.specs.declared.sheet.Rows.{Rows}
+use Rattle.indices.specs.declared.text.Reader.{Reader}
+use Rattle.indices.specs.Fault.{fault_of_line}
 use Rattle.indices.specs.Reader.{unread, AtStart}
-use Rattle.indices.specs.Row.{row_of, rates}
-use Rattle.indices.specs.Rows.{remaining, BetweenRows, ValuesRead, RowRead}
+use Rattle.indices.specs.Row.{Row, row_of}
+use Rattle.indices.specs.Rows.{remaining, ValuesRead, RowRead}
 use Rattle.indices.specs.Sheet.{Sheet, no_rows, count_fault, rate_fault, with_row, below}
 use Rattle.indices.specs.Text.{Line}
 use Rattle.indices.specs.Value.{value, first_wrong}
@@ -26,44 +27,46 @@ below_line columns line l ls b right =
 pub remaining_unread : (rows : Rows) → AtStart rows.reader → remaining rows ≡ below rows.columns rows.reader.line (unread rows.reader)
 remaining_unread rows start = ap (below rows.columns rows.reader.line) (sym (unread_open rows.reader start.unended))
 
-module _ (was is : Rows) (values : Values) (here : BetweenRows was) (same : is.columns ≡ was.columns) (read : ValuesRead was.reader values is.reader) where
+module _ (was : Rows) (mid : Reader) (values : List ℕ) (here : AtStart was.reader) (read : ValuesRead was.reader values mid) where
   abbrev line : ℕ
   line = was.reader.line
 
   abbrev row : Row
   row = row_of was.columns line (map value read.fields)
 
-  next : remaining was ≡ with_row (option_or (count_fault line read.fields) (rate_fault row)) row (below was.columns (line + 1) (unread is.reader))
+  next : remaining was ≡ with_row (option_or (count_fault line read.fields) (rate_fault row)) row (below was.columns (line + 1) (unread mid))
   next =
-      remaining_unread was here.start ∙ ap (below was.columns line) read.text ∙ below_line was.columns line read.fields (unread is.reader) (subst Begun (sym (unread_open is.reader read.start.unended)) (lines_begun is.reader.rest.now)) read.right
+      remaining_unread was here ∙ ap (below was.columns line) read.text ∙ below_line was.columns line read.fields (unread mid) (subst Begun (sym (unread_open mid read.start.unended)) (lines_begun mid.rest.now)) read.right
 
-  pub not_five : (values.count ≡ 5 → ⊥) → remaining was ≡ no_rows (Some (record { reason = FieldCount; line = line; field = 0 }))
+  length_kept : length values ≡ min 6 (length read.fields)
+  length_kept = ap length read.kept ∙ length-take 6 (map value read.fields) ∙ ap (min 6) (length-map read.fields value)
+
+  pub not_five : (length values ≡ 5 → ⊥) → remaining was ≡ no_rows (Some (fault_of_line FieldCount line))
   not_five other =
-      next ∙ ap (λ o. with_row (option_or o (rate_fault row)) row (below was.columns (line + 1) (unread is.reader))) (cond-false _ _ _ (ne_eqb (length read.fields) 5 (λ e. other (read.counted ∙ e))))
+      next ∙ ap (λ o. with_row (option_or o (rate_fault row)) row (below was.columns (line + 1) (unread mid))) (cond-false _ _ _ (ne_eqb (length read.fields) 5 (λ e. other (omega (arith, length_kept)))))
 
-  module _ (five : values.count ≡ 5) (made : Row) (is_made : made ≡ row_of was.columns line values.at) where
-    same_row : made ≡ row
-    same_row = is_made ∙ ap (row_of was.columns line) (read.kept five)
+  module _ (five : length values ≡ 5) where
+    all_five : length read.fields ≡ 5
+    all_five = omega (arith, length_kept)
 
-    judged : remaining was ≡ with_row (rate_fault row) row (below was.columns (line + 1) (unread is.reader))
-    judged =
-        next ∙ ap (λ o. with_row (option_or o (rate_fault row)) row (below was.columns (line + 1) (unread is.reader))) (cond-true _ _ _ (eq-eqb (length read.fields) 5 (sym read.counted ∙ five)))
+    same_row : row_of was.columns line values ≡ row
+    same_row =
+        let long = length-map read.fields value in
+        ap (row_of was.columns line) (read.kept ∙ take_all 6 (map value read.fields) (omega (arith, all_five)))
 
-    pub not_rates : rates made ≡ false → remaining was ≡ no_rows (Some (record { reason = Rates; line = line; field = 0 }))
-    not_rates bad =
-        judged ∙ ap (λ o. with_row o row (below was.columns (line + 1) (unread is.reader))) (cond-false _ _ _ (ap rates (sym same_row) ∙ bad))
+    pub judged : (o : Option Fault) → rate_fault (row_of was.columns line values) ≡ o → remaining was ≡ with_row o (row_of was.columns line values) (below was.columns (line + 1) (unread mid))
+    judged o h =
+        next ∙ ap (λ o. with_row (option_or o (rate_fault row)) row (below was.columns (line + 1) (unread mid))) (cond-true _ _ _ (eq-eqb (length read.fields) 5 all_five)) ∙ (λ i. with_row (rate_fault (sym same_row i)) (sym same_row i) (below was.columns (line + 1) (unread mid))) ∙ ap (λ o. with_row o (row_of was.columns line values) (below was.columns (line + 1) (unread mid))) h
 
-    later : below was.columns (line + 1) (unread is.reader) ≡ remaining is
-    later = (λ i. below (sym same i) (sym read.line i) (unread_open is.reader read.start.unended i))
-
-    pub row_read : rates made ≡ true → RowRead was made is
-    row_read good =
-        let says : remaining was ≡ with_row None made (remaining is) =
-        judged ∙ ap (λ o. with_row o row (below was.columns (line + 1) (unread is.reader))) (cond-true _ _ _ (ap rates (sym same_row) ∙ good)) ∙ (λ i. with_row None (sym same_row i) (later i)) in
-        record {
-          rows = ap (λ (s : Sheet). s.rows) says;
-          fault = ap (λ (s : Sheet). s.fault) says;
-          rates = leb-true _ 999999 (and_parts _ _ good).0;
-          standing = record { start = read.start; five = ap length same ∙ here.five };
-          shorter = read.shorter;
-        }
+pub row_read : (was is : Rows) (values : List ℕ) (here : AtStart was.reader) (read : ValuesRead was.reader values is.reader) → is.columns ≡ was.columns → length values ≡ 5 → (row : Row) → row ≡ row_of was.columns was.reader.line values → rate_fault (row_of was.columns was.reader.line values) ≡ None → RowRead was row is
+row_read was is values here read same five row made good =
+    let later : below was.columns (was.reader.line + 1) (unread is.reader) ≡ remaining is =
+    (λ i. below (sym same i) (sym read.line i) (unread_open is.reader read.start.unended i)) in
+    let says : remaining was ≡ with_row None row (remaining is) =
+    judged was is.reader values here read five None good ∙ (λ i. with_row None (sym made i) (later i)) in
+    record {
+      rows = ap (λ (s : Sheet). s.rows) says;
+      fault = ap (λ (s : Sheet). s.fault) says;
+      start = read.start;
+      shorter = read.shorter;
+    }

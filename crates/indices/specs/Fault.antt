@@ -29,6 +29,16 @@ layer FieldCount = 2
 layer Rates = 2
 layer (Fleet refusal) = fleet_layer
 
+-- a fault of a field, of a whole line, and of the whole sheet
+abbrev pub fault_at : Reason → ℕ → ℕ → Fault
+fault_at reason line place = record { reason = reason; line = line; field = place }
+
+abbrev pub fault_of_line : Reason → ℕ → Fault
+fault_of_line reason line = fault_at reason line 0
+
+abbrev pub fault_of_sheet : Reason → Fault
+fault_of_sheet reason = fault_of_line reason 0
+
 -- a line of names, and a line of five numbers in decimal with commas between them
 abbrev pub written : ℕ → ℕ → ℕ → ℕ → ℕ → List ℕ
 written a b c d e = codes "layer,number,line,field,added\n" ++ (decimal a ++ (codes "," ++ (decimal b ++ (codes "," ++ (decimal c ++ (codes "," ++ (decimal d ++ (codes "," ++ decimal e))))))))

@@ -5,9 +5,8 @@ use Rattle.fleet.specs.Adding.{add_refusal, after_add}
 use Rattle.fleet.specs.Ledger.{Ledger}
 use Rattle.indices.specs.declared.fault.Fault.{Fault}
 use Rattle.indices.specs.declared.unit_intake.Stopped.{Stopped}
-use Rattle.indices.specs.declared.row.Row.{Row}
 use Rattle.indices.specs.Fault.{Report, report, fleet_layer}
-use Rattle.indices.specs.Row.{states}
+use Rattle.indices.specs.Row.{Row, states}
 use Rattle.indices.specs.Sheet.{Sheet, sheet}
 
 -- the ledger after intake, how many units were added, and what is told of the fault

@@ -1,5 +1,6 @@
 -- The names of the columns, and the order in which line 1 holds them. Assumes nothing.
-use Rattle.std.specs.Prelude.{ℕ, ◌+◌, Bool, false, cond, ◌&&◌, ◌||◌, List, [], ◌∷◌, ◌++◌, Some, None, Ok, Err, codes, Option, Result, ◌==◌}
+use Rattle.std.specs.Prelude.{ℕ, ◌+◌, Bool, cond, ◌&&◌, List, [], ◌∷◌, ◌++◌, Some, None, Ok, Err, codes, Option, Result, ◌==◌}
+use Rattle.std.specs.List.{list_any}
 use Rattle.std.specs.Str.{bytes_eq}
 use Rattle.indices.specs.declared.names.Column.{Column}
 use Rattle.indices.specs.declared.names.Column.TheVariants.{Id, Cap, Rate, Part, Prate}
@@ -32,9 +33,9 @@ index Prate = 4
 abbrev pub same : Column → Column → Bool
 same c d = index c == index d
 
+-- a column that stands in a list
 abbrev pub among : Column → List Column → Bool
-among c [] = false
-among c (d ∷ ds) = same c d || among c ds
+among c ds = list_any (λ d. same d c) ds
 
 abbrev pub all : List Column → Bool
 all cs = among Id cs && (among Cap cs && (among Rate cs && (among Part cs && among Prate cs)))

@@ -1,11 +1,11 @@
 -- What the readers of whole lines promise, and what is left of a sheet. Assumes nothing.
-use Rattle.std.specs.Prelude.{◌≡◌, ◌+◌, ◌<◌, ◌≤◌, List, ◌∷◌, map, length, Some, None, Option}
-use Rattle.indices.specs.declared.line.Values.{Values}
+use Rattle.std.specs.Prelude.{◌≡◌, ℕ, ◌+◌, ◌<◌, List, ◌∷◌, map, length, take, None}
 use Rattle.indices.specs.declared.names.Column.{Column}
-use Rattle.indices.specs.declared.row.Row.{Row}
+use Rattle.indices.specs.declared.row.Row.{Row as RowHeld}
 use Rattle.indices.specs.declared.sheet.Rows.{Rows}
 use Rattle.indices.specs.declared.text.Reader.{Reader}
-use Rattle.indices.specs.Reader.{unread, AtStart, Last}
+use Rattle.indices.specs.Reader.{unread, AtStart}
+use Rattle.indices.specs.Row.{Row}
 use Rattle.indices.specs.Sheet.{Sheet, below, text}
 use Rattle.indices.specs.Text.{Line, lines}
 use Rattle.indices.specs.Value.{value, first_wrong}
@@ -17,35 +17,27 @@ pub record NamesRead (was : Reader) (columns : List Column) (is : Reader) : Type
   pub start : AtStart is
   pub line : is.line ≡ 2
 
--- each field of a line is a value, and the lines below it are left; of five values each is kept
-pub record ValuesRead (was : Reader) (values : Values) (is : Reader) : Type 0 where
+-- each field of a line is a value, and the lines below it are left; six values are enough to tell that a line has too many
+pub record ValuesRead (was : Reader) (values : List ℕ) (is : Reader) : Type 0 where
   pub fields : Line
   pub text : unread was ≡ fields ∷ unread is
   pub right : first_wrong was.line 1 fields ≡ None
-  pub counted : values.count ≡ length fields
-  pub kept : values.count ≡ 5 → values.at ≡ map value fields
+  pub kept : values ≡ take 6 (map value fields)
   pub start : AtStart is
   pub line : is.line ≡ was.line + 1
   pub shorter : length is.rest.now < length was.rest.now
 
--- the values of a line, or none where only the blank line after the last line feed is left
-abbrev pub LineRead : Reader → Option Values → Reader → Type 0
-LineRead was (Some values) is = ValuesRead was values is
-LineRead was None is = Last was.line (unread was) None
+-- what a row that is held says
+abbrev pub row_says : RowHeld → Row
+row_says r = record { line = r.line; id = r.id; «cap» = r.«cap»; rate = r.rate; part = r.part; prate = r.prate }
 
 -- what the bytes that are left say, from their line on
 abbrev pub remaining : Rows → Sheet
 remaining rows = below rows.columns rows.reader.line (lines rows.reader.rest.now)
 
--- the columns are read, and the reader stands at the start of a line
-pub record BetweenRows (rows : Rows) : Type 0 where
-  pub start : AtStart rows.reader
-  pub five : length rows.columns ≡ 5
-
 -- a row is read, and the others and the fault are left
 pub record RowRead (was : Rows) (row : Row) (is : Rows) : Type 0 where
   pub rows : (remaining was).rows ≡ row ∷ (remaining is).rows
   pub fault : (remaining was).fault ≡ (remaining is).fault
-  pub rates : row.rate + row.prate ≤ 999999
-  pub standing : BetweenRows is
+  pub start : AtStart is.reader
   pub shorter : length is.reader.rest.now < length was.reader.rest.now

@@ -4,10 +4,10 @@ use Rattle.std.specs.Option.{option_or}
 use Rattle.indices.specs.declared.fault.Fault.{Fault}
 use Rattle.indices.specs.declared.fault.Reason.TheVariants.{TooLong, Names, FieldCount, Rates}
 use Rattle.indices.specs.declared.names.Column.{Column}
-use Rattle.indices.specs.declared.row.Row.{Row}
 use Rattle.indices.specs.Names.{order}
 use Rattle.indices.specs.End.{final}
-use Rattle.indices.specs.Row.{row_of, rates}
+use Rattle.indices.specs.Fault.{fault_at, fault_of_line, fault_of_sheet}
+use Rattle.indices.specs.Row.{Row, row_of, rates}
 use Rattle.indices.specs.Text.{Line, lines}
 use Rattle.indices.specs.Value.{value, first_wrong}
 
@@ -20,10 +20,10 @@ abbrev pub no_rows : Option Fault → Sheet
 no_rows fault = record { rows = []; fault = fault }
 
 abbrev pub count_fault : ℕ → Line → Option Fault
-count_fault line fields = cond (length fields == 5) None (Some (record { reason = FieldCount; line = line; field = 0 }))
+count_fault line fields = cond (length fields == 5) None (Some (fault_of_line FieldCount line))
 
 abbrev pub rate_fault : Row → Option Fault
-rate_fault row = cond (rates row) None (Some (record { reason = Rates; line = row.line; field = 0 }))
+rate_fault row = cond (rates row) None (Some (fault_of_line Rates row.line))
 
 -- the first fault of a line of values
 abbrev pub line_fault : ℕ → Line → Row → Option Fault
@@ -43,7 +43,7 @@ below columns line (l ∷ m ∷ ls) = let row : Row = row_of columns line (map v
 -- the lines below line 1, with what line 1 gives: the columns, or the place of what is wrong there
 abbrev pub below_names : Result (List Column) ℕ → List Line → Sheet
 below_names (Ok columns) ls = below columns 2 ls
-below_names (Err place) ls = no_rows (Some (record { reason = Names; line = 1; field = place }))
+below_names (Err place) ls = no_rows (Some (fault_at Names 1 place))
 
 abbrev pub text : List Line → Sheet
 text [] = no_rows None
@@ -52,4 +52,4 @@ text (l ∷ m ∷ ls) = below_names (order [] 1 l) (m ∷ ls)
 
 -- a sheet has at most 65,535 bytes
 abbrev pub sheet : List ℕ → Sheet
-sheet bytes = cond (nat_lt 65535 (length bytes)) (no_rows (Some (record { reason = TooLong; line = 0; field = 0 }))) (text (lines bytes))
+sheet bytes = cond (nat_lt 65535 (length bytes)) (no_rows (Some (fault_of_sheet TooLong))) (text (lines bytes))

@@ -1,6 +1,6 @@
 // What is wrong with a sheet, and where.
 ghost use Rattle.std.specs.Prelude.{◌≡◌};
-ghost use Rattle.indices.specs.Fault.{number, layer};
+ghost use Rattle.indices.specs.Fault.{number, layer, fault_of_line, fault_of_sheet};
 
 use fleet::Refusal;
 
@@ -33,6 +33,24 @@ pub struct Fault {
 }
 
 impl Fault {
+    // A fault of the whole sheet.
+    pub(crate) fn of_sheet(reason: Reason) -> Fault
+        ensures { result ≡ fault_of_sheet reason }
+    {
+        Fault::of_line(reason, 0)
+    }
+
+    // A fault of a whole line.
+    pub(crate) fn of_line(reason: Reason, line: u32) -> Fault
+        ensures { result ≡ fault_of_line reason line }
+    {
+        Fault {
+            reason,
+            line,
+            field: 0,
+        }
+    }
+
     pub fn number(&self) -> u8
         ensures { result ≡ number self.now.reason }
     {

@@ -4,6 +4,7 @@
 
 mod byte;
 mod fault;
+mod field;
 mod line;
 mod loads;
 mod lost_load;
@@ -13,7 +14,6 @@ mod row;
 mod sheet;
 mod text;
 mod unit_intake;
-mod value;
 
 pub use fault::{Fault, Reason};
 pub use loads::{ABOVE_LIMIT, Growth, LOAD_LIMIT, Line, LoadModel, MOST_DAYS, Peaks};

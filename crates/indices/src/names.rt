@@ -1,20 +1,22 @@
 // The names in line 1, and the order in which they stand there.
-ghost use Rattle.std.specs.Prelude.{◌≡◌, Some, Ok, Err};
-ghost use Rattle.std.specs.Str.{bytes_eq};
-ghost use Rattle.indices.specs.declared.fault.Reason.TheVariants.{Names};
-ghost use Rattle.indices.specs.Names.{column, among, fresh};
+ghost use Rattle.std.specs.Prelude.{◌≡◌, Some, None, MatchResult};
+ghost use Rattle.indices.specs.Fault.{fault_at};
+ghost use Rattle.indices.specs.Names.{column, fresh};
 ghost use Rattle.indices.specs.Reader.{unread, AtStart};
 ghost use Rattle.indices.specs.Rows.{NamesRead};
 ghost use Rattle.indices.specs.Sheet.{no_rows, text};
 
 use crate::fault::{Fault, Reason};
+use crate::field::Field;
 use crate::text::{Reader, Token};
+use arrayvec::ArrayVec;
 
 // A sheet has five columns.
 pub const COLUMNS: usize = 5;
 
-#[derive(Clone, Copy, PartialEq, Eq)]
+#[derive(Clone, Copy, PartialEq, Eq, Default)]
 pub enum Column {
+    #[default]
     Id,
     Cap,
     Rate,
@@ -22,57 +24,29 @@ pub enum Column {
     Prate,
 }
 
-fn is(bytes: &[u8], name: &[u8]) -> bool
-    ensures { result ≡ bytes_eq bytes.now name.now }
-{
-    bytes == name
-}
-
-fn column_of(bytes: &[u8]) -> Option<Column>
-    ensures { result ≡ column bytes.now }
-{
-    if is(bytes, b"id") {
-        Some(Column::Id)
-    } else if is(bytes, b"cap") {
-        Some(Column::Cap)
-    } else if is(bytes, b"rate") {
-        Some(Column::Rate)
-    } else if is(bytes, b"part") {
-        Some(Column::Part)
-    } else if is(bytes, b"prate") {
-        Some(Column::Prate)
-    } else {
-        None
-    }
-}
-
-fn repeats(c: Column, before: &[Column]) -> bool
-    ensures { result ≡ among c before.now }
-{
-    for d in before {
-        if c == *d {
-            return true;
+impl Column {
+    // The column of a name.
+    fn named(name: &[u8]) -> Option<Column>
+        ensures { result ≡ column name.now }
+    {
+        match name {
+            b"id" => Some(Column::Id),
+            b"cap" => Some(Column::Cap),
+            b"rate" => Some(Column::Rate),
+            b"part" => Some(Column::Part),
+            b"prate" => Some(Column::Prate),
+            _ => None,
         }
     }
-    false
 }
 
 // The column that a field names, unless it stands before.
-fn fresh_column(bytes: &[u8], before: &[Column]) -> Option<Column>
-    ensures { result ≡ fresh before.now (column bytes.now) }
+fn fresh_column(field: &Field, before: &[Column]) -> Result<Column, Fault>
+    ensures { MatchResult result (λ c. fresh before.now (column field.now.bytes.now) ≡ Some c) (λ fault. (fresh before.now (column field.now.bytes.now) ≡ None) × (fault ≡ fault_at Reason.Names field.now.line field.now.place)) }
 {
-    let c = column_of(bytes)?;
-    if repeats(c, before) { None } else { Some(c) }
-}
-
-// A fault of line 1, at the place of a name or at 0.
-fn names_fault(place: u32) -> Fault
-    ensures { result ≡ record { reason = Names; line = 1; field = place } }
-{
-    Fault {
-        reason: Reason::Names,
-        line: 1,
-        field: place,
+    match Column::named(field.bytes) {
+        Some(column) if !before.contains(&column) => Ok(column),
+        _ => Err(field.fault(Reason::Names)),
     }
 }
 
@@ -80,27 +54,18 @@ fn names_fault(place: u32) -> Fault
 pub(crate) fn read_names(reader: &mut Reader) -> Result<[Column; COLUMNS], Fault>
     requires start { AtStart reader.old }
     requires line { reader.old.line ≡ 1 }
-    ensures { elim result [ Ok columns ↦ NamesRead reader.old columns reader.new | Err fault ↦ text (unread reader.old) ≡ no_rows (Some fault) ] }
+    ensures { MatchResult result (λ columns. NamesRead reader.old columns reader.new) (λ fault. text (unread reader.old) ≡ no_rows (Some fault)) }
 {
-    let mut columns = [Column::Id; COLUMNS];
-    let mut count = 0;
+    let mut columns = ArrayVec::<Column, COLUMNS>::new();
     loop {
         match reader.token()? {
-            Token::Field { bytes, place, .. } => {
-                let Some(c) = fresh_column(bytes, &columns[0..count]) else {
-                    return Err(names_fault(place));
-                };
-                columns[count] = c;
-                count += 1;
-            }
+            Token::Field(field) => columns.push(fresh_column(&field, &columns)?),
             Token::LineEnd => break,
             // line 1 is not the end of a sheet
-            Token::SheetEnd => unreachable(),
+            Token::SheetEnd => unreachable!(),
         }
     }
-    if count < COLUMNS {
-        Err(names_fault(0))
-    } else {
-        Ok(columns)
-    }
+    columns
+        .into_inner()
+        .map_err(|_| Fault::of_line(Reason::Names, 1))
 }

@@ -1,6 +1,5 @@
 // A sheet, row by row.
-ghost use Rattle.std.specs.Prelude.{◌≡◌, Some, None, Ok, Err};
-ghost use Rattle.indices.specs.Rows.{remaining, BetweenRows, RowRead};
+ghost use Rattle.std.specs.Prelude.{◌≡◌, length, Some, None, MatchOption, MatchResult};
 ghost use Rattle.indices.specs.Sheet.{no_rows, sheet};
 
 use crate::fault::{Fault, Reason};
@@ -17,18 +16,18 @@ const MOST_BYTES: usize = 65_535;
 pub struct Rows<'a> {
     reader: Reader<'a>,
     columns: [Column; COLUMNS],
+    ghost five: { length columns ≡ 5 },
 }
 
 impl<'a> Rows<'a> {
+    ghost use Rattle.indices.specs.Reader.{AtStart};
+    ghost use Rattle.indices.specs.Rows.{remaining, row_says, RowRead};
+
     pub(crate) fn open(bytes: &'a [u8]) -> Result<Rows<'a>, Fault>
-        ensures { elim result [ Ok rows ↦ (sheet bytes.now ≡ remaining rows) × BetweenRows rows | Err fault ↦ sheet bytes.now ≡ no_rows (Some fault) ] }
+        ensures { MatchResult result (λ rows. (sheet bytes.now ≡ remaining rows) × AtStart rows.reader) (λ fault. sheet bytes.now ≡ no_rows (Some fault)) }
     {
         if bytes.len() > MOST_BYTES {
-            return Err(Fault {
-                reason: Reason::TooLong,
-                line: 0,
-                field: 0,
-            });
+            return Err(Fault::of_sheet(Reason::TooLong));
         }
         let mut reader = Reader::new(bytes);
         let columns = read_names(&mut reader)?;
@@ -37,28 +36,16 @@ impl<'a> Rows<'a> {
 
     // The next row, or none where the sheet ends without a fault.
     pub(crate) fn next_row(&mut self) -> Result<Option<Row>, Fault>
-        requires { BetweenRows self.old }
-        ensures { elim result [ Ok o ↦ elim o [ Some row ↦ RowRead self.old row self.new | None ↦ remaining self.old ≡ no_rows None ] | Err fault ↦ remaining self.old ≡ no_rows (Some fault) ] }
+        requires { AtStart self.old.reader }
+        ensures { MatchResult result (λ o. MatchOption o (remaining self.old ≡ no_rows None) (λ row. RowRead self.old (row_says row) self.new)) (λ fault. remaining self.old ≡ no_rows (Some fault)) }
     {
         let line = self.reader.line;
         let Some(values) = read_values(&mut self.reader)? else {
             return Ok(None);
         };
-        if values.count != COLUMNS {
-            return Err(Fault {
-                reason: Reason::FieldCount,
-                line,
-                field: 0,
-            });
+        if values.len() != COLUMNS {
+            return Err(Fault::of_line(Reason::FieldCount, line));
         }
-        let row = Row::new(line, &self.columns, &values.at);
-        if !row.rates_fit() {
-            return Err(Fault {
-                reason: Reason::Rates,
-                line,
-                field: 0,
-            });
-        }
-        Ok(Some(row))
+        Ok(Some(Row::new(line, &self.columns, &values)?))
     }
 }

@@ -1,45 +1,25 @@
 // Cuts a sheet into its fields, one token at a time.
-ghost use Rattle.std.specs.Prelude.{◌≡◌, ℕ, ◌<◌, ◌≤◌, true, false, length, Ok, slice_index};
+ghost use Rattle.std.specs.Prelude.{◌≡◌, ◌+◌, ◌^◌, ◌<◌, ◌≤◌, true, false, length, Ok};
+ghost use Rattle.std.specs.List.{list_any, position};
 ghost use Rattle.indices.specs.Byte.{kind};
 ghost use Rattle.indices.specs.Text.{lines, complete, ends, feed};
-ghost use Rattle.indices.specs.Reader.{unread, AtStart, Ready, Reads};
 
-use crate::byte::{Kind, kind_of};
+use crate::byte::Kind;
 use crate::fault::{Fault, Reason};
-
-// Whether a byte ends a line.
-fn feeds(b: u8) -> bool
-    ensures { result ≡ feed (kind b) }
-{
-    matches!(kind_of(b), Kind::LineFeed)
-}
+use crate::field::Field;
 
 // Whether the line that the bytes begin with has its line feed.
 fn has_line_feed(bytes: &[u8]) -> bool
-    ensures { result ≡ complete (lines bytes.now) }
+    ensures { result ≡ list_any (λ b. feed (kind b)) bytes.now }
 {
-    for b in bytes {
-        if feeds(*b) {
-            return true;
-        }
-    }
-    false
+    bytes.iter().any(|b| Kind::from(*b).ends_line())
 }
 
-// How many bytes stand before the first that ends a field, in a line that has its line feed.
-fn field_length(bytes: &[u8]) -> usize
-    requires { complete (lines bytes.now) ≡ true }
-    ensures within { result < length bytes.now }
-    ensures inside { (k : ℕ) → k < result → ends (kind (slice_index bytes.now k)) ≡ false }
-    ensures ended { ends (kind (slice_index bytes.now result)) ≡ true }
+// The place of the first byte that ends a field.
+fn field_end(bytes: &[u8]) -> Option<usize>
+    ensures { result ≡ position (λ b. ends (kind b)) bytes.now }
 {
-    for (i, b) in bytes.iter().enumerate() {
-        match kind_of(*b) {
-            Kind::Comma | Kind::LineFeed => return i,
-            Kind::Digit(_) | Kind::Other => {}
-        }
-    }
-    bytes.len()
+    bytes.iter().position(|b| Kind::from(*b).ends_field())
 }
 
 // What is left of a sheet to read.
@@ -52,20 +32,24 @@ pub struct Reader<'a> {
     place: u32,
     // the line feed of that line is read
     ended: bool,
+    // the lines and the fields of a line can be counted
+    ghost fits: { line + place + length rest.now < 2 ^ 32 },
+    // a line ends with a field
+    ghost begun: { ended ≡ true → 0 < place },
+    // a line of which a field is read is known to have its line feed
+    ghost whole: { 0 < place → ended ≡ false → complete (lines rest.now) ≡ true },
 }
 
 #[derive(Clone, Copy)]
 pub enum Token<'a> {
-    Field {
-        bytes: &'a [u8],
-        line: u32,
-        place: u32,
-    },
+    Field(Field<'a>),
     LineEnd,
     SheetEnd,
 }
 
 impl<'a> Reader<'a> {
+    ghost use Rattle.indices.specs.Reader.{unread, AtStart, Reads};
+
     // At the start of a sheet, which is short enough to count its lines and fields.
     pub(crate) fn new(sheet: &'a [u8]) -> Self
         requires { length sheet.now ≤ 65535 }
@@ -83,25 +67,23 @@ impl<'a> Reader<'a> {
 
     // The next field of a line that has its line feed.
     fn field(&mut self) -> Token<'a>
-        requires ready { Ready self.old }
         requires unended { self.old.ended ≡ false }
         requires whole { complete (lines self.old.rest.now) ≡ true }
         ensures { Reads self.old (Ok result) self.new }
     {
         let rest = self.rest;
-        let length = field_length(rest);
-        self.ended = feeds(rest[length]);
+        let length = field_end(rest).unwrap();
+        self.ended = Kind::from(rest[length]).ends_line();
         self.rest = &rest[length + 1..];
         self.place += 1;
-        Token::Field {
-            bytes: &rest[0..length],
+        Token::Field(Field {
+            bytes: &rest[..length],
             line: self.line,
             place: self.place,
-        }
+        })
     }
 
     pub(crate) fn token(&mut self) -> Result<Token<'a>, Fault>
-        requires { Ready self.old }
         ensures { Reads self.old result self.new }
     {
         if self.ended {
@@ -115,11 +97,7 @@ impl<'a> Reader<'a> {
         }
         // a line without its line feed is refused before any of its fields is read
         if self.place == 0 && !has_line_feed(self.rest) {
-            return Err(Fault {
-                reason: Reason::NoLineFeed,
-                line: self.line,
-                field: 0,
-            });
+            return Err(Fault::of_line(Reason::NoLineFeed, self.line));
         }
         Ok(self.field())
     }

@@ -1,10 +1,10 @@
 // Intake: the rows of a sheet are added to a fleet one by one, up to the first fault.
-ghost use Rattle.std.specs.Prelude.{◌≡◌, ◌+◌, ◌≤◌, length, Some, None, Ok, Err};
+ghost use Rattle.std.specs.Prelude.{◌≡◌, ◌+◌, length, Some, None, MatchResult};
 ghost use Rattle.std.specs.Option.{option_map};
 ghost use Rattle.fleet.specs.Fleets.{ledger_of};
 ghost use Rattle.indices.specs.Fault.{report, layer, number, written};
-ghost use Rattle.indices.specs.Intake.{row_refusal, after_row, refused_row, taken_sheet, told, Took, intake as intake_of, Answers, added_by};
-ghost use Rattle.indices.specs.Rows.{remaining, BetweenRows};
+ghost use Rattle.indices.specs.Intake.{row_refusal, after_row, refused_row, told, Took, intake as intake_of, Answers, added_by};
+ghost use Rattle.indices.specs.Rows.{row_says};
 
 use crate::fault::{Fault, Reason};
 use crate::row::Row;
@@ -39,40 +39,16 @@ impl fmt::Display for Stopped {
 
 // Adds the unit that a row describes.
 fn take_row<R: Rounding>(fleet: &mut Fleet, rule: &R, row: &Row) -> Result<(), Fault>
-    requires { row.now.rate + row.now.prate ≤ 999999 }
-    ensures answer { elim result [ Ok _ ↦ row_refusal (ledger_of fleet.old) row.now ≡ None | Err fault ↦ option_map (refused_row row.now.line) (row_refusal (ledger_of fleet.old) row.now) ≡ Some (report fault) ] }
-    ensures after { ledger_of fleet.new ≡ after_row (R.answer rule.now) (ledger_of fleet.old) row.now }
+    ensures answer { MatchResult result (λ _. row_refusal (ledger_of fleet.old) (row_says row.now) ≡ None) (λ fault. option_map (refused_row row.now.line) (row_refusal (ledger_of fleet.old) (row_says row.now)) ≡ Some (report fault)) }
+    ensures after { ledger_of fleet.new ≡ after_row (R.answer rule.now) (ledger_of fleet.old) (row_says row.now) }
 {
-    let states = row.states();
-    match fleet.add(rule, row.id, row.cap, &states.at[0..states.count]) {
-        Ok(_) => Ok(()),
-        Err(refusal) => Err(Fault {
-            reason: Reason::Fleet(refusal),
-            line: row.line,
-            field: 0,
-        }),
-    }
-}
-
-// Adds row after row, and counts them in `added`.
-fn take_rows<R: Rounding>(
-    fleet: &mut Fleet,
-    rule: &R,
-    rows: &mut Rows,
-    added: &mut u32,
-) -> Result<(), Fault>
-    requires standing { BetweenRows rows.old }
-    requires none { added.old ≡ 0 }
-    ensures { Took (taken_sheet (R.answer rule.now) (remaining rows.old) (ledger_of fleet.old) 0) (ledger_of fleet.new) added.new (told result) }
-{
-    while let Some(row) = rows.next_row()? {
-        take_row(fleet, rule, &row)?;
-        *added += 1;
-    }
+    fleet
+        .add(rule, row.id, row.cap, &row.states())
+        .map_err(|refusal| Fault::of_line(Reason::Fleet(refusal), row.line))?;
     Ok(())
 }
 
-// Opens a sheet and adds its rows.
+// Adds the units of a sheet, row by row, and counts them in `added`.
 fn take_sheet<R: Rounding>(
     fleet: &mut Fleet,
     rule: &R,
@@ -83,7 +59,11 @@ fn take_sheet<R: Rounding>(
     ensures { Took (intake_of (R.answer rule.now) sheet.now (ledger_of fleet.old)) (ledger_of fleet.new) added.new (told result) }
 {
     let mut rows = Rows::open(sheet)?;
-    take_rows(fleet, rule, &mut rows, added)
+    while let Some(row) = rows.next_row()? {
+        take_row(fleet, rule, &row)?;
+        *added += 1;
+    }
+    Ok(())
 }
 
 // Adds the units of a sheet, row by row. Answers how many were added, or the first fault with the

@@ -1,12 +1,10 @@
-use Rattle.std.proofs.Common.{◌<◌, ◌≤◌, ◌⊎◌, length, sym, inl, inr, arith}
-use Rattle.std.proofs.lemmas.Bool.{eqb-true, eqb-false}
-use Rattle.indices.proofs.Reading.{sheet_ends, unfed}
+use Rattle.std.proofs.Common.{◌≡◌, ◌<◌, ◌≤◌, ◌⊎◌, false, length, sym, ◌∙◌, inl, inr, arith}
+use Rattle.std.proofs.lemmas.Bool.{eqb-false}
+use Rattle.indices.specs.Text.{lines, complete}
+use Rattle.indices.proofs.Lines.{complete_any}
+use Rattle.indices.proofs.Reading.{unfed}
 use Rattle.indices.proofs.text.Reader.token.Goals as goal
-use Rattle.indices.proofs.text.Reader.token.Goals.{else-self-gt1-via-then-self-gt1+else-is_empty, else-self-gt1-via-else-self-gt1}
-
-pub returns-then-is_empty : goal.returns-then-is_empty
-returns-then-is_empty c =
-    sheet_ends c.args.self.now c.if-self.false c.if-self-gt1.true (eqb-true _ 0 (sym c.if-is_empty.ensures))
+use Rattle.indices.proofs.text.Reader.token.Goals.{else-self-gt1-via-then-self-gt1+else-is_empty, else-self-gt1-via-else-self-gt1, else-self-eq0-via-then-self-eq0+else-not-has_line_feed, else-self-eq0-via-else-self-eq0}
 
 pub returns-then-not-has_line_feed : goal.returns-then-not-has_line_feed
 returns-then-not-has_line_feed c =
@@ -15,4 +13,11 @@ returns-then-not-has_line_feed c =
       | else-self-gt1-via-else-self-gt1 w ↦ inl w.if-self-gt1.false
     ]
     in
-    unfed c.args.self.now c.if-self.false (sym c.if-not-has_line_feed.ensures) why
+    let short : complete (lines c.args.self.now.rest.now) ≡ false = complete_any c.args.self.now.rest.now ∙ sym c.if-not-has_line_feed.ensures in
+    rw c.of_line.ensures (unfed c.args.self.now c.if-self.false short why)
+
+pub field-requires-clause-whole : goal.field-requires-clause-whole
+field-requires-clause-whole c = elim c.else-self-eq0.branch [
+  | else-self-eq0-via-then-self-eq0+else-not-has_line_feed w ↦ complete_any c.args.self.now.rest.now ∙ sym w.if-not-has_line_feed.ensures
+  | else-self-eq0-via-else-self-eq0 w ↦ c.args.self.now.whole (omega arith) c.if-self.false
+]
