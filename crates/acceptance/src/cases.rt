@@ -1,6 +1,4 @@
 // Units that several examples use.
-ghost use Rattle.std.specs.Prelude.{◌≤◌};
-
 use fleet::{Fleet, Refusal};
 use rounding::{FULL, Nearest, Rounding, State};
 use std::process::Abort;
@@ -41,13 +39,11 @@ pub const FIVE: [State; 3] = [
 ];
 
 // In service with the weight that an outage of so many steps leaves.
-pub(crate) fn out_by(outage: u32, outage_weight: u32) -> [State; 2]
-    requires { outage_weight ≤ 1000000 }
-{
+pub(crate) fn out_by(outage: u32, outage_weight: u32) -> [State; 2] {
     [
         State {
             outage: 0,
-            weight: 1_000_000 - outage_weight,
+            weight: 1_000_000u32.saturating_sub(outage_weight),
         },
         State {
             outage,
@@ -57,9 +53,7 @@ pub(crate) fn out_by(outage: u32, outage_weight: u32) -> [State; 2]
 }
 
 // The same for one step.
-pub(crate) fn one_step(outage_weight: u32) -> [State; 2]
-    requires { outage_weight ≤ 1000000 }
-{
+pub(crate) fn one_step(outage_weight: u32) -> [State; 2] {
     out_by(1, outage_weight)
 }
 

@@ -1,9 +1,7 @@
 // Units that go out for maintenance, come back and are retired.
 ghost use Rattle.std.specs.Prelude.{◌≤◌};
 
-use crate::cases::{
-    FIVE, SURE, check_entries, check_two_units, one_step, rare_units, three_units,
-};
+use crate::cases::{FIVE, SURE, check_entries, check_two_units, one_step, rare_units, three_units};
 use fleet::Fleet;
 use rounding::{Down, FULL, Nearest, Rounding, State, Up};
 use std::process::Abort;

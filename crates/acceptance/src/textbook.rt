@@ -1,6 +1,4 @@
 // Figures that Billinton and Allan print in "Reliability Evaluation of Power Systems", second edition.
-ghost use Rattle.std.specs.Prelude.{◌≤◌};
-
 use crate::cases::out_by;
 use fleet::Fleet;
 use indices::{Line, Peaks, days};
@@ -10,9 +8,7 @@ use std::process::Abort;
 use std::test::Fail;
 
 // A unit of two states, a step being a megawatt.
-fn add_unit(fleet: &mut Fleet, identity: u32, megawatts: u32, rate: u32) -> Result<u32, Fail>
-    requires { rate ≤ 1000000 }
-{
+fn add_unit(fleet: &mut Fleet, identity: u32, megawatts: u32, rate: u32) -> Result<u32, Fail> {
     Ok(fleet.add(&Nearest, identity, megawatts, &out_by(megawatts, rate))?)
 }
 
