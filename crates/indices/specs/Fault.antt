@@ -3,7 +3,9 @@ use Rattle.std.specs.Prelude.{ℕ, List, ◌++◌, codes, decimal}
 use Rattle.fleet.specs.Refusals.{number as refusal_number}
 use Rattle.indices.specs.declared.fault.Fault.{Fault}
 use Rattle.indices.specs.declared.fault.Reason.{Reason}
-use Rattle.indices.specs.declared.fault.Reason.TheVariants.{TooLong, NoLineFeed, Names, NotDigit, DigitCount, FieldCount, Rates, Fleet}
+use Rattle.indices.specs.declared.fault.Reason.TheVariants.{TooLong, NoLineFeed, Names, NotDigit, DigitCount, FieldCount, Rates, Fleet as FleetRefuses}
+use Rattle.indices.specs.declared.fault.Layer.{Layer}
+use Rattle.indices.specs.declared.fault.Layer.TheVariants.{Text, Row, Fleet}
 
 abbrev pub number : Reason → ℕ
 number TooLong = 15
@@ -13,7 +15,7 @@ number NotDigit = 18
 number DigitCount = 19
 number FieldCount = 20
 number Rates = 21
-number (Fleet refusal) = refusal_number refusal
+number (FleetRefuses refusal) = refusal_number refusal
 
 -- where a fault is found: 1 in the text, 2 in the row, 3 by the fleet
 abbrev pub fleet_layer : ℕ
@@ -27,7 +29,13 @@ layer NotDigit = 1
 layer DigitCount = 1
 layer FieldCount = 2
 layer Rates = 2
-layer (Fleet refusal) = fleet_layer
+layer (FleetRefuses refusal) = fleet_layer
+
+-- the number of a layer
+abbrev pub layer_number : Layer → ℕ
+layer_number Text = 1
+layer_number Row = 2
+layer_number Fleet = 3
 
 -- a fault of a field, of a whole line, and of the whole sheet
 abbrev pub fault_at : Reason → ℕ → ℕ → Fault

@@ -1,6 +1,6 @@
 // What is wrong with a sheet, and where.
 ghost use Rattle.std.specs.Prelude.{◌≡◌};
-ghost use Rattle.indices.specs.Fault.{number, layer, fault_of_line, fault_of_sheet};
+ghost use Rattle.indices.specs.Fault.{number, layer, layer_number, fault_of_line, fault_of_sheet};
 
 use fleet::Refusal;
 
@@ -22,6 +22,27 @@ pub enum Reason {
     Rates,
     // the fleet refuses the unit
     Fleet(Refusal),
+}
+
+// Where a fault is found.
+#[derive(Clone, Copy)]
+enum Layer {
+    Text = 1,
+    Row = 2,
+    Fleet = 3,
+}
+
+impl Reason {
+    fn layer(self) -> Layer
+        ensures { layer_number result ≡ layer self }
+    {
+        match self {
+            Reason::TooLong | Reason::NoLineFeed | Reason::NotDigit | Reason::DigitCount =>
+                Layer::Text,
+            Reason::Names | Reason::FieldCount | Reason::Rates => Layer::Row,
+            Reason::Fleet(_) => Layer::Fleet,
+        }
+    }
 }
 
 #[derive(Clone, Copy, PartialEq, Eq, Debug)]
@@ -69,10 +90,6 @@ impl Fault {
     pub fn layer(&self) -> u8
         ensures { result ≡ layer self.now.reason }
     {
-        match self.reason {
-            Reason::TooLong | Reason::NoLineFeed | Reason::NotDigit | Reason::DigitCount => 1,
-            Reason::Names | Reason::FieldCount | Reason::Rates => 2,
-            Reason::Fleet(_) => 3,
-        }
+        self.reason.layer() as u8
     }
 }
