@@ -131,7 +131,7 @@ fn partial(i: u32) -> [State; 3]
     ]
 }
 
-// Eight units, added under each rule in turn.
+// Eight units, added under each rule in turn. A rule is a type, so each has a call of its own.
 pub(crate) fn eight_units(rt: &impl Abort) -> Result<Fleet, Fail> {
     let mut fleet = Fleet::open();
     for i in 1..=8u32 {

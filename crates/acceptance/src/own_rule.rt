@@ -7,7 +7,8 @@ use fleet::Fleet;
 use rounding::{Rounding, State};
 use std::test::Fail;
 
-// The nearest whole number; a half goes down.
+// The nearest whole number; a half goes down. All of it is written here, as by someone who has the
+// trait alone.
 #[derive(Clone, Copy)]
 struct HalfDown;
 

@@ -72,6 +72,8 @@ impl Fault {
         }
     }
 
+    // One case carries a refusal with a number of its own, so the numbers stand here and not at the
+    // cases.
     pub fn number(&self) -> u8
         ensures { result ≡ number self.now.reason }
     {

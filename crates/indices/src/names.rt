@@ -25,7 +25,8 @@ pub enum Column {
 }
 
 impl Column {
-    // The column of a name.
+    // The column of a name. There is nothing to say of any other name but its place, which its field
+    // has.
     fn named(name: &[u8]) -> Option<Column>
         ensures { result ≡ column name.now }
     {

@@ -35,7 +35,7 @@ fn place_of(column: Column, columns: &[Column]) -> Option<usize>
     columns.iter().position(|d| *d == column)
 }
 
-// The value that stands in the place of a column.
+// The value that stands in the place of a column: line 1 and a row are two lists of the sheet.
 fn value_under(column: Column, columns: &[Column], values: &[u32]) -> u32
     requires { length columns.now ≡ length values.now }
     ensures { result ≡ under column columns.now values.now }

@@ -15,6 +15,7 @@ const MOST_BYTES: usize = 65_535;
 #[derive(Drop)]
 pub struct Rows<'a> {
     reader: Reader<'a>,
+    // the names of line 1 in their order
     columns: [Column; COLUMNS],
     ghost five: { length columns ≡ 5 },
 }

@@ -48,7 +48,8 @@ fn take_row<R: Rounding>(fleet: &mut Fleet, rule: &R, row: &Row) -> Result<(), F
     Ok(())
 }
 
-// Adds the units of a sheet, row by row, and counts them in `added`.
+// Adds the units of a sheet, row by row, and counts them in `added`, which also holds where a fault
+// stops it.
 fn take_sheet<R: Rounding>(
     fleet: &mut Fleet,
     rule: &R,

@@ -58,7 +58,7 @@ impl UnitRecord {
         self.while_serving(self.last_outage())
     }
 
-    // The capacity and the standing, 1 in service and 0 out.
+    // The capacity and the standing, 1 in service and 0 out: plain numbers, as a look-up answers.
     pub(crate) fn plain(&self) -> (u32, u32)
         ensures { result ≡ plain_unit (unit_of self.now) }
     {
