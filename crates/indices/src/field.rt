@@ -9,6 +9,7 @@ use crate::fault::{Fault, Reason};
 // A value has at most this many digits.
 const MOST_DIGITS: usize = 7;
 
+// The bytes of a field, and where it stands.
 #[derive(Clone, Copy)]
 pub struct Field<'a> {
     pub bytes: &'a [u8],
@@ -50,6 +51,7 @@ impl Field<'_> {
         }
     }
 
+    // The number that the field writes, or what is wrong with it.
     pub(crate) fn value(&self) -> Result<u32, Fault>
         ensures { MatchResult result (λ v. (wrong self.now.bytes.now ≡ None) × (v ≡ value self.now.bytes.now)) (λ fault. located self.now.line self.now.place (wrong self.now.bytes.now) ≡ Some fault) }
     {

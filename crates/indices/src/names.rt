@@ -41,7 +41,7 @@ impl Column {
     }
 }
 
-// The column that a field names, unless it stands before.
+// The column that a field names, where it does not stand before.
 fn fresh_column(field: &Field, before: &[Column]) -> Result<Column, Fault>
     ensures { MatchResult result (λ c. fresh before.now (column field.now.bytes.now) ≡ Some c) (λ fault. (fresh before.now (column field.now.bytes.now) ≡ None) × (fault ≡ fault_at Reason.Names field.now.line field.now.place)) }
 {

@@ -9,7 +9,7 @@ use crate::names::Column;
 use arrayvec::ArrayVec;
 use rounding::{MILLION, State};
 
-// A row gives at most this many states
+// A row gives at most this many states.
 const STATES: usize = 3;
 
 #[derive(Drop)]

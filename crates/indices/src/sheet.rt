@@ -17,6 +17,7 @@ pub struct Rows<'a> {
     reader: Reader<'a>,
     // the names of line 1 in their order
     columns: [Column; COLUMNS],
+    // line 1 has a name for each
     ghost five: { length columns ≡ 5 },
 }
 
@@ -24,6 +25,7 @@ impl<'a> Rows<'a> {
     ghost use Rattle.indices.specs.Reader.{AtStart};
     ghost use Rattle.indices.specs.Rows.{remaining, row_says, RowRead};
 
+    // Reads line 1 of a sheet.
     pub(crate) fn open(bytes: &'a [u8]) -> Result<Rows<'a>, Fault>
         ensures { MatchResult result (λ rows. (sheet bytes.now ≡ remaining rows) × AtStart rows.reader) (λ fault. sheet bytes.now ≡ no_rows (Some fault)) }
     {

@@ -84,6 +84,7 @@ impl<'a> Reader<'a> {
         })
     }
 
+    // The next token, or the fault of a line without its line feed.
     pub(crate) fn token(&mut self) -> Result<Token<'a>, Fault>
         ensures { Reads self.old result self.new }
     {

@@ -1,5 +1,5 @@
-use Rattle.std.proofs.Common.{Ok, ap, subst}
-use Rattle.std.proofs.lemmas.Result.{on_err_weaker, err_from_is_err_and}
+use Rattle.std.proofs.Common.{Ok, ap, subst, rules}
+use Rattle.std.proofs.lemmas.Result.{on_err_weaker}
 use Rattle.indices.specs.Reader.{Reads}
 use Rattle.indices.proofs.Valuing.{kept_from, valuing_wrong, valuing_more}
 use Rattle.indices.proofs.line.read_values.Goals as goal
@@ -14,6 +14,6 @@ loop-field-preserved c =
 
 pub returns-in_err-value-in-Field : goal.returns-in_err-value-in-Field
 returns-in_err-value-in-Field c =
-    let p = err_from_is_err_and c.from_residual-in_err-value-in-Field.result c.from_residual-in_err-value-in-Field.ensures.1 in
     let read = subst (λ t. Reads c.loop-field.reader (Ok t) c.token.new.self) c.in-Field.is c.in_ok-field.ensures in
-    rw (p.1, p.2) (valuing_wrong _ _ _ _ c.loop-field.invariant _ _ _ read _ c.in_err-value-in-Field.ensures)
+    let told = valuing_wrong _ _ _ _ c.loop-field.invariant _ _ _ read _ c.in_err-value-in-Field.ensures in
+    search rules

@@ -1,5 +1,4 @@
 use Rattle.std.proofs.Common.{◌≡◌, Some, Ok, sym, ap, ◌∙◌, subst, arith, rules}
-use Rattle.std.proofs.lemmas.Result.{err_from_is_err_and}
 use Rattle.indices.specs.Names.{column, fresh}
 use Rattle.indices.specs.Reader.{FieldRead, LineEnded, Reads}
 use Rattle.indices.specs.Sheet.{no_rows}
@@ -8,9 +7,7 @@ use Rattle.indices.proofs.names.read_names.Goals as goal
 use Rattle.indices.proofs.names.read_names.Goals.{In-Field, In-LineEnd, In_ok-fresh_column-in-Field}
 
 pub returns-in_err-field : goal.returns-in_err-field
-returns-in_err-field c =
-    let p = err_from_is_err_and c.from_residual.result c.from_residual.ensures.1 in
-    rw (p.1, p.2) (naming_last _ _ c.token.new.self _ c.loop-field.invariant _ c.in_err-field.ensures)
+returns-in_err-field c = search (rules, naming_last)
 
 -- what `token` said of the field
 read : (c : In-Field) → FieldRead c.loop-field.reader c.in-Field.field.bytes.now c.in-Field.field.line c.in-Field.field.place c.token.new.self
@@ -31,11 +28,10 @@ loop-field-preserved c =
 
 pub returns-in_err-fresh_column-in-Field : goal.returns-in_err-fresh_column-in-Field
 returns-in_err-fresh_column-in-Field c =
-    let p = err_from_is_err_and c.from_residual-in_err-fresh_column-in-Field.result c.from_residual-in_err-fresh_column-in-Field.ensures.1 in
     let told = c.in_err-fresh_column-in-Field.ensures in
     let bad = ap (λ l. fresh l (column c.in-Field.field.bytes.now)) (sym c.deref.ensures.0) ∙ told.0 in
-    rw (p.1, p.2)
-    (naming_wrong _ _ c.token.new.self _ c.loop-field.invariant _ _ _ (read (goal.at.returns-in_err-fresh_column-in-Field c).In-Field) bad ∙ ap (λ f. no_rows (Some f)) (sym told.1))
+    let says = naming_wrong _ _ c.token.new.self _ c.loop-field.invariant _ _ _ (read (goal.at.returns-in_err-fresh_column-in-Field c).In-Field) bad ∙ ap (λ f. no_rows (Some f)) (sym told.1) in
+    search rules
 
 pub returns : goal.returns
 returns c =

@@ -1,6 +1,5 @@
-use Rattle.std.proofs.Common.{sym, ◌∙◌, arith}
+use Rattle.std.proofs.Common.{sym, ◌∙◌, arith, rules}
 use Rattle.std.proofs.lemmas.Option.{MatchOption-at_some, MatchOption-at_none}
-use Rattle.std.proofs.lemmas.Result.{err_from_is_err_and}
 use Rattle.fleet.specs.Fleets.{ledger_of}
 use Rattle.indices.specs.Rows.{row_says, RowRead}
 use Rattle.indices.proofs.Taking.{taken_rowless, taken_accepted, taken_refused, took, took_rowless}
@@ -14,21 +13,20 @@ read g c = MatchOption-at_some _ (λ row. RowRead c.loop-row.rows (row_says row)
 
 pub returns-in_err-rows : goal.returns-in_err-rows
 returns-in_err-rows g c =
-    let p = err_from_is_err_and c.from_residual.result c.from_residual.ensures.1 in
-    rw (p.1, p.2) (took_rowless _ _ _ _ _ c.requires c.in_err-rows.ensures)
+    let ended = took_rowless (g.R.Rounding.answer c.args.rule.now) _ _ (ledger_of c.args.fleet.now) _ c.requires c.in_err-rows.ensures in
+    search rules
 
 pub returns-in_err-row : goal.returns-in_err-row
 returns-in_err-row g c =
-    let p = err_from_is_err_and c.from_residual-in_err-row.result c.from_residual-in_err-row.ensures.1 in
-    rw (p.1, p.2)
-    (took _ _ _ _ (sym (taken_rowless _ _ _ (ledger_of c.loop-row.fleet) c.loop-row.added c.in_err-row.ensures) ∙ c.loop-row.invariant.same))
+    let ended = took _ _ _ _ (sym (taken_rowless _ _ _ (ledger_of c.loop-row.fleet) c.loop-row.added c.in_err-row.ensures) ∙ c.loop-row.invariant.same) in
+    search rules
 
 pub returns-in_err-take_row : goal.returns-in_err-take_row
 returns-in_err-take_row g c =
-    let p = err_from_is_err_and c.from_residual-in_err-take_row.result c.from_residual-in_err-take_row.ensures.1 in
     let row = read g (goal.at.returns-in_err-take_row g c).In-Some in
     let refused = taken_refused _ c.loop-row.rows c.next_row.new.self (row_says c.in-Some.row) row (ledger_of c.loop-row.fleet) c.loop-row.added _ c.take_row.ensures.after _ c.in_err-take_row.ensures.answer in
-    rw (p.1, p.2) (took _ _ _ _ (refused ∙ c.loop-row.invariant.same))
+    let ended = took _ _ _ _ (refused ∙ c.loop-row.invariant.same) in
+    search rules
 
 pub loop-row-preserved : goal.loop-row-preserved
 loop-row-preserved g c =

@@ -1,6 +1,5 @@
-use Rattle.std.proofs.Common.{sym, refl, ap, ◌∙◌}
+use Rattle.std.proofs.Common.{sym, refl, ap, ◌∙◌, rules}
 use Rattle.std.proofs.lemmas.Option.{MatchOption-at_some}
-use Rattle.std.proofs.lemmas.Result.{err_from_is_err_and}
 use Rattle.indices.specs.Row.{row_of}
 use Rattle.indices.specs.Rows.{ValuesRead}
 use Rattle.indices.specs.Sheet.{rate_fault}
@@ -14,8 +13,8 @@ read c = MatchOption-at_some _ (λ values. ValuesRead c.args.self.now.reader val
 
 pub returns-in_err-values : goal.returns-in_err-values
 returns-in_err-values c =
-    let p = err_from_is_err_and c.from_residual.result c.from_residual.ensures.1 in
-    rw (p.1, p.2) (remaining_unread c.args.self.now c.requires ∙ c.in_err-values.ensures c.args.self.now.columns)
+    let told = remaining_unread c.args.self.now c.requires ∙ c.in_err-values.ensures c.args.self.now.columns in
+    search rules
 
 pub returns-then-len-ne-COLUMNS : goal.returns-then-len-ne-COLUMNS
 returns-then-len-ne-COLUMNS c =
@@ -25,9 +24,9 @@ returns-then-len-ne-COLUMNS c =
 pub returns-in_err-new : goal.returns-in_err-new
 returns-in_err-new c =
     let d = (goal.at.returns-in_err-new c).In-Some in
-    let p = err_from_is_err_and c.from_residual-in_err-new.result c.from_residual-in_err-new.ensures.1 in
-    let told = ap (λ vs. rate_fault (row_of c.args.self.now.columns c.args.self.now.reader.line vs)) (sym c.deref.ensures.0) ∙ c.in_err-new.ensures in
-    rw (p.1, p.2) (judged c.args.self.now _ _ c.requires (read d) (sym c.len.ensures.value ∙ c.if-len-ne-COLUMNS.false) _ told)
+    let rates = ap (λ vs. rate_fault (row_of c.args.self.now.columns c.args.self.now.reader.line vs)) (sym c.deref.ensures.0) ∙ c.in_err-new.ensures in
+    let told = judged c.args.self.now _ _ c.requires (read d) (sym c.len.ensures.value ∙ c.if-len-ne-COLUMNS.false) _ rates in
+    search rules
 
 pub returns : goal.returns
 returns c =
