@@ -1,4 +1,4 @@
-use Rattle.std.proofs.Common.{◌≡◌, ◌*◌, ◌<◌, ◌≤◌, length, get_or, sym, ap, ◌∙◌, mul-le-mul_right, add-mul, zero-mul, arith, below_more}
+use Rattle.std.proofs.Common.{◌≡◌, ◌*◌, ◌<◌, ◌≤◌, length, get_or, sym, ap, ◌∙◌, add-mul, zero-mul, arith, below_more}
 use Rattle.std.proofs.lemmas.List.{take_all}
 use Rattle.std.proofs.lemmas.Result.{err_from_is_err_and}
 use Rattle.std.proofs.lemmas.Bool.{ltb-false}
@@ -6,7 +6,7 @@ use Rattle.rounding.specs.Table.{full}
 use Rattle.fleet.specs.Fleets.{ledger_of}
 use Rattle.fleet.specs.declared.refusal.Refusal.TheVariants.{AboveLimit}
 use Rattle.fleet.proofs.Refusing.{accepted}
-use Rattle.indices.specs.Loads.{most_days, limit}
+use Rattle.indices.specs.Loads.{limit}
 use Rattle.indices.specs.Days.{lost_days}
 use Rattle.indices.proofs.Losing.{loss_le, lost_none, lost_more, limit_kept, limit_passed}
 use Rattle.indices.proofs.lost_load.days.Goals as goal
@@ -24,14 +24,6 @@ pub overflow_add-sum : goal.overflow_add-sum
 overflow_add-sum g c =
     let few = (g.L.LoadModel.bounded c.args.model.now).few in
     let small : c.loss-parts.result.0 ≤ full = rw c.loss-parts.ensures.parts (loss_le (ledger_of c.args.fleet.now) c.args.fleet.now.table.certain c.args.fleet.now.table.falling _) in
-    omega arith
-
-pub overflow_add-bound : goal.overflow_add-bound
-overflow_add-bound g c =
-    let few = (g.L.LoadModel.bounded c.args.model.now).few in
-    let early : c.loop-day.day ≤ most_days = omega arith in
-    let bound = mul-le-mul_right c.args.fleet.now.tolerance early in
-    let held = c.args.fleet.now.held in
     omega arith
 
 pub loop-day-preserved : goal.loop-day-preserved
