@@ -76,8 +76,6 @@ later_above capacity before (s ∷ states) h =
 
 -- what the rules on states give
 pub record Ruled (capacity : ℕ) (states : List State) : Type 0 where
-  pub some : 0 < length states
-  pub few : length states ≤ 8
   pub shares : weights states ≡ million
   pub starting : Starting states
   pub weight_held : first_weight states ≤ million
@@ -94,8 +92,6 @@ ruled capacity (s ∷ states) h =
     let none = eqb-true s.outage 0 (and_parts _ _ starting.0).0 in
     let last = later_last capacity s states ending.0 (omega arith) in
     record {
-      some = omega arith;
-      few = leb-true _ 8 parts.0;
       shares = eqb-true _ _ ending.1;
       starting = (none, All-weaker (λ t. s.outage < t.outage) (λ t. 1 ≤ t.outage) (λ t more. omega arith) states (later_above capacity s.outage states ending.0));
       weight_held = let all = weights_cons s states in omega (arith, eqb-true _ _ ending.1);

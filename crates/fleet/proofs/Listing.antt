@@ -2,13 +2,13 @@
 use Rattle.std.proofs.Common.{◌≡◌, ℕ, suc, ◌+◌, ◌-◌, ◌<◌, ◌≤◌, Bool, cond, eqb, List, [], ◌∷◌, ◌++◌, map, length, get_or, take, Some, None, sym, refl, ap, ◌∙◌, subst, ⊎_elim, arith}
 use Rattle.std.specs.List.{sum_by, position_from, position}
 use Rattle.std.proofs.lemmas.List.{take-map, map_more}
-use Rattle.std.proofs.lemmas.List.Sums.{sum_by-cons, sum_by_push, sum_by-take-le}
+use Rattle.std.proofs.lemmas.List.Sums.{sum_by_push, sum_by-take-le}
+use Rattle.std.proofs.lemmas.Option.{none-some, same_Some}
 use Rattle.std.proofs.lemmas.Bool.{cond-true, cond-false, cases_Bool}
 use Rattle.std.proofs.lemmas.Iterator.Adapters.{position_from-zero}
 use Rattle.fleet.specs.Units.{GeneratingUnit, unit_of, total}
 use Rattle.fleet.specs.LookUp.{place, look_up, plain}
 use Rattle.fleet.specs.declared.record.UnitRecord.{UnitRecord}
-use Rattle.fleet.proofs.Refusing.{some≢none, some_same}
 
 abbrev named : ℕ → GeneratingUnit → Bool
 named identity u = eqb u.identity identity
@@ -16,10 +16,6 @@ named identity u = eqb u.identity identity
 pub total_none : (share : GeneratingUnit → ℕ) → total share [] ≡ 0
 unfolding total
 total_none share = refl
-
-pub total_cons : (share : GeneratingUnit → ℕ) (u : GeneratingUnit) (units : List GeneratingUnit) → total share (u ∷ units) ≡ share u + total share units
-unfolding total
-total_cons share u units = sum_by-cons share u units
 
 pub total_push : (share : GeneratingUnit → ℕ) (units : List GeneratingUnit) (u : GeneratingUnit) → total share (units ++ u ∷ []) ≡ total share units + share u
 unfolding total
@@ -39,17 +35,17 @@ unfolding look_up
 look_up_none i identity [] h = refl
 look_up_none i identity (u ∷ units) h =
     ⊎_elim
-    (λ yes'. absurd (some≢none (sym (cond-true (eqb u.identity identity) (Some i) _ yes') ∙ h)))
+    (λ yes'. absurd (none-some _ (sym (sym (cond-true (eqb u.identity identity) (Some i) _ yes') ∙ h))))
     (λ no'. cond-false (eqb u.identity identity) _ _ no' ∙ look_up_none (i + 1) identity units (sym (cond-false (eqb u.identity identity) (Some i) _ no') ∙ h))
     (cases_Bool (eqb u.identity identity))
 
 look_up_some : (i identity : ℕ) (units : List GeneratingUnit) (k : ℕ) (d : GeneratingUnit) → position_from (named identity) i units ≡ Some k → (i ≤ k) × (look_up identity units ≡ Some (plain (get_or units (k - i) d)))
 unfolding look_up
-look_up_some i identity [] k d h = absurd (some≢none (sym h))
+look_up_some i identity [] k d h = absurd (none-some _ h)
 look_up_some i identity (u ∷ units) k d h =
     ⊎_elim
     (λ yes'.
-    let here : i ≡ k = some_same (sym (cond-true (eqb u.identity identity) (Some i) _ yes') ∙ h) in
+    let here : i ≡ k = same_Some _ _ (sym (cond-true (eqb u.identity identity) (Some i) _ yes') ∙ h) in
     let none : k - i ≡ 0 = omega arith in
     (omega arith, cond-true (eqb u.identity identity) _ _ yes' ∙ ap (λ n. Some (plain (get_or (u ∷ units) n d))) (sym none)))
     (λ no'.

@@ -1,21 +1,16 @@
 -- Rules of refusal, one after another. Assumes nothing.
-use Rattle.std.proofs.Common.{◌≡◌, ℕ, Bool, true, false, Some, None, Option, refl, ap, arith}
+use Rattle.std.proofs.Common.{◌≡◌, ℕ, Bool, true, false, Some, None, Option, sym, refl, ap}
+use Rattle.std.proofs.lemmas.Option.{none-some}
 use Rattle.fleet.specs.Refusals.{first, refused_if, unless}
 use Rattle.fleet.specs.declared.refusal.Refusal.{Refusal}
 
-pub some≢none : {X : Type 0} {x : X} → Some x ≡ None → ⊥
-some≢none h = let z : ◌≡◌ {A = ℕ} 0 1 = cc in omega arith
-
-pub some_same : {X : Type 0} {x y : X} → Some x ≡ Some y → x ≡ y
-some_same h = cc
-
 pub accepted : (case : Bool) (refusal : Refusal) → refused_if case refusal ≡ None → case ≡ false
-accepted true refusal h = absurd (some≢none h)
+accepted true refusal h = absurd (none-some _ (sym h))
 accepted false refusal h = refl
 
 pub both_accepted : (a b : Option ℕ) → first a b ≡ None → (a ≡ None) × (b ≡ None)
 both_accepted None b h = (refl, h)
-both_accepted (Some n) b h = absurd (some≢none h)
+both_accepted (Some n) b h = absurd (none-some _ (sym h))
 
 pub unless_accepted : {A : Type 0} (refusal : Option ℕ) (before after : A) → refusal ≡ None → unless refusal before after ≡ after
 unless_accepted refusal before after h = ap (λ o. unless o before after) h

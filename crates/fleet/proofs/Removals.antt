@@ -1,4 +1,4 @@
--- What an accepted removal gives, and how long the table is after it. Assumes nothing.
+-- What an accepted removal gives, and the ledger after it. Assumes nothing.
 use Rattle.std.proofs.Common.{◌≡◌, ℕ, ◌<◌, ◌≤◌, false, None, sym, ap, ◌∙◌}
 use Rattle.std.proofs.lemmas.Bool.{leb-false}
 use Rattle.rounding.specs.Tolerance.{removal_tolerance}

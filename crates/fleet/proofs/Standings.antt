@@ -1,15 +1,12 @@
 -- One unit's standing: when a call is refused for it, and what a list totals with it changed. Assumes nothing.
-use Rattle.std.proofs.Common.{◌≡◌, ℕ, ◌+◌, ◌<◌, Bool, true, false, cond, not, List, map, length, get_or, set, Some, None, sym, refl, ap, ◌∙◌, arith}
-use mathlib.Core.Bool.{beq}
+use Rattle.std.proofs.Common.{◌≡◌, ℕ, ◌+◌, ◌<◌, Bool, true, false, List, map, length, get_or, set, sym, ap, ◌∙◌, arith}
 use Rattle.std.proofs.lemmas.List.{map-set, length-map, get_or-map}
 use Rattle.std.proofs.lemmas.List.Sums.{sum_by-set}
-use Rattle.std.proofs.lemmas.Bool.{cond-false, false≢true, true≢false}
-use Rattle.fleet.specs.Refusals.{number, refused_if}
+use Rattle.std.proofs.lemmas.Bool.{cond-false}
 use Rattle.fleet.specs.States.{outage_of_last}
 use Rattle.fleet.specs.Units.{GeneratingUnit, blank, unit_of, whole_capacity, service_outage, total, registered_capacity, greatest_outage}
 use Rattle.fleet.specs.Standing.{unit_at, standing_as, with_standing}
 use Rattle.fleet.specs.declared.record.UnitRecord.{UnitRecord}
-use Rattle.fleet.specs.declared.refusal.Refusal.TheVariants.{Standing}
 
 -- a record that differs from the one at a place by its standing alone
 pub recorded_standing : (records : List UnitRecord) (i : ℕ) (serving : Bool) (d new : UnitRecord) → i < length (map unit_of records) → unit_of new ≡ standing_as serving (unit_of (get_or records i d)) → map unit_of (set records i new) ≡ with_standing serving i (map unit_of records)
@@ -40,16 +37,3 @@ pub outage_returned : (i : ℕ) (units : List GeneratingUnit) → i < length uni
 outage_returned i units h out =
     let none = cond-false (unit_at i units).serving (outage_of_last (unit_at i units).states) 0 out in
     omega (arith, none, total_standing service_outage true i units h)
-
--- a unit that does not stand as the call needs it, and one that does
-pub stands_otherwise : (is serving : Bool) → not (beq is serving) ≡ true → refused_if (cond serving (not is) is) Standing ≡ Some (number Standing)
-stands_otherwise true true h = absurd (false≢true h)
-stands_otherwise true false h = refl
-stands_otherwise false true h = refl
-stands_otherwise false false h = absurd (false≢true h)
-
-pub stands_so : (is serving : Bool) → not (beq is serving) ≡ false → refused_if (cond serving (not is) is) Standing ≡ None
-stands_so true true h = refl
-stands_so true false h = absurd (true≢false h)
-stands_so false true h = absurd (true≢false h)
-stands_so false false h = refl

@@ -1,5 +1,5 @@
 // A unit as the register keeps it.
-ghost use Rattle.std.specs.Prelude.{◌≡◌, true};
+ghost use Rattle.std.specs.Prelude.{◌≡◌, ◌≤◌, true};
 ghost use Rattle.fleet.specs.States.{lawful};
 
 use crate::states::STATES;
@@ -18,5 +18,6 @@ pub struct UnitRecord {
     pub capacity: u32,
     states: ArrayVec<State, STATES>,
     pub serving: bool,
+    ghost held: { capacity ≤ 1000 },
     ghost ruled: { lawful capacity states.items ≡ true },
 }

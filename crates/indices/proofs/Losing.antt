@@ -1,6 +1,7 @@
 -- Lost load: a place above the table, and the sum over the days. Assumes nothing.
 use Rattle.std.proofs.Common.{◌≡◌, ℕ, ◌+◌, ◌<◌, ◌≤◌, Bool, true, false, not, ltb, List, length, get_or, take, Some, None, sym, refl, ap, ◌∙◌}
 use Rattle.std.proofs.lemmas.List.Sums.{sum_by_more}
+use Rattle.std.proofs.lemmas.Option.{none-some}
 use Rattle.std.proofs.lemmas.Bool.{ltb-true}
 use Rattle.rounding.specs.Table.{full, Falling}
 use Rattle.rounding.proofs.Amounts.{before_le}
@@ -9,7 +10,6 @@ use Rattle.fleet.specs.Ledger.{Ledger}
 use Rattle.fleet.specs.Refusals.{refused_if}
 use Rattle.fleet.specs.declared.refusal.Refusal.{Refusal}
 use Rattle.fleet.specs.declared.refusal.Refusal.TheVariants.{AboveLimit}
-use Rattle.fleet.proofs.Refusing.{some≢none}
 use Rattle.indices.specs.Loads.{limit}
 use Rattle.indices.specs.Days.{loss, lost_days, load_refusal, limit_refusal}
 use Rattle.indices.proofs.Loading.{within_all, within_not}
@@ -17,7 +17,7 @@ use Rattle.indices.proofs.Loading.{within_all, within_not}
 -- a rule refuses only in its case
 pub refused_case : (case : Bool) (refusal : Refusal) (number : ℕ) → refused_if case refusal ≡ Some number → case ≡ true
 refused_case true refusal number h = refl
-refused_case false refusal number h = absurd (some≢none (sym h))
+refused_case false refusal number h = absurd (none-some _ h)
 
 -- a loss is at most certain
 pub loss_le : (l : Ledger) → get_or l.table 0 0 ≡ full → Falling l.table → (load : ℕ) → loss l load ≤ full

@@ -39,7 +39,7 @@ impl Fleet {
         ensures after { ledger_of self.new ≡ after_add (R.answer rule.now) (ledger_of self.old) identity capacity states.now }
     {
         let unit = UnitRecord::checked(identity, capacity, states)?;
-        self.register.room(identity, capacity)?;
+        self.register.room(&unit)?;
         let tolerance = raised(self.tolerance)?;
         self.table.add(rule, &unit);
         self.register.push(unit);

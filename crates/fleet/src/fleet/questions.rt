@@ -23,7 +23,7 @@ impl Fleet {
         ensures { result ≡ look_up identity (ledger_of self.now).units }
     {
         let place = self.register.find(identity)?;
-        Some(self.register.registered()[place].plain())
+        Some(self.register.at(place).plain())
     }
 
     // The capacity of the units in service.

@@ -18,7 +18,6 @@ use crate::refusal::Refusal;
 use crate::table::Table;
 use rounding::Rounding;
 
-// Each call takes apart for itself what the look-up finds, into the first of its own refusals.
 impl Fleet {
     // Sets a unit in service out, takes it out of the table under the rule, and answers the new
     // tolerance.
@@ -26,10 +25,8 @@ impl Fleet {
         ensures answer { Outcome (withdraw_refusal (ledger_of self.old) identity) result (λ t. t ≡ withdrawn_tolerance (unit_with identity (ledger_of self.old).units).states (ledger_of self.old).tolerance) }
         ensures after { ledger_of self.new ≡ after_withdraw (R.answer rule.now) (ledger_of self.old) identity }
     {
-        let Some(place) = self.register.find(identity) else {
-            return Err(Refusal::NotRegistered);
-        };
-        let unit = &self.register.registered()[place];
+        let place = self.register.find(identity).ok_or(Refusal::NotRegistered)?;
+        let unit = self.register.at(place);
         unit.stands(true)?;
         let tolerance = after_removal(self.tolerance, unit.first_weight())?;
         let greatest = self.register.total(UnitRecord::service_outage) - unit.service_outage();
@@ -45,10 +42,8 @@ impl Fleet {
         ensures answer { Outcome (return_refusal (ledger_of self.old) identity) result (λ t. t ≡ raised_by_one (ledger_of self.old).tolerance) }
         ensures after { ledger_of self.new ≡ after_return (R.answer rule.now) (ledger_of self.old) identity }
     {
-        let Some(place) = self.register.find(identity) else {
-            return Err(Refusal::NotRegistered);
-        };
-        let unit = &self.register.registered()[place];
+        let place = self.register.find(identity).ok_or(Refusal::NotRegistered)?;
+        let unit = self.register.at(place);
         unit.stands(false)?;
         let tolerance = raised(self.tolerance)?;
         self.table.add(rule, unit);
@@ -62,10 +57,8 @@ impl Fleet {
         ensures answer { Outcome (retire_refusal (ledger_of self.old) identity) result (λ n. n ≡ length (after_retire (ledger_of self.old) identity).units) }
         ensures after { ledger_of self.new ≡ after_retire (ledger_of self.old) identity }
     {
-        let Some(place) = self.register.find(identity) else {
-            return Err(Refusal::NotRegistered);
-        };
-        self.register.registered()[place].stands(false)?;
+        let place = self.register.find(identity).ok_or(Refusal::NotRegistered)?;
+        self.register.at(place).stands(false)?;
         self.register.strike(place);
         Ok(self.register.len() as u32)
     }
@@ -76,8 +69,8 @@ impl Fleet {
         ensures answer { result ≡ length (in_service (ledger_of self.old).units) }
         ensures after { ledger_of self.new ≡ after_rebuild (R.answer rule.now) (ledger_of self.old) }
     {
-        let mut table = Table::open();
-        let count = table.build(rule, self.register.registered());
+        let table = Table::of(rule, self.register.registered());
+        let count = self.register.serving() as u32;
         self.table = table;
         self.tolerance = count;
         count

@@ -13,7 +13,8 @@ use rounding::{MILLION, State};
 // The greatest identity.
 const IDENTITIES: u32 = 65_535;
 
-// What stands in a place of the register that no unit has taken: a unit that is never out.
+// What stands in a place of the register that no unit has taken: a unit out of service, with one
+// state, in which nothing is out. It is written out, since its states keep their rules.
 impl Default for UnitRecord {
     fn default() -> UnitRecord {
         let mut states = ArrayVec::new();

@@ -2,7 +2,7 @@
 ghost use Rattle.std.specs.Prelude.{◌≡◌, ◌≤◌, if◌then◌else◌};
 ghost use Rattle.rounding.specs.Removing.{first_weight as weight_of_first};
 ghost use Rattle.fleet.specs.States.{outage_of_last};
-ghost use Rattle.fleet.specs.Units.{unit_of, whole_capacity as whole, service_capacity as in_service, service_outage as outage_in_service};
+ghost use Rattle.fleet.specs.Units.{unit_of, whole_capacity as whole, service_capacity as capacity_in_service, service_outage as outage_in_service};
 ghost use Rattle.fleet.specs.LookUp.{plain as plain_unit};
 ghost use Rattle.fleet.specs.Refusals.{Outcome};
 ghost use Rattle.fleet.specs.Standing.{standing_refusal};
@@ -44,7 +44,7 @@ impl UnitRecord {
 
     // What it counts for in the capacity of the units in service.
     pub(crate) fn service_capacity(&self) -> u32
-        ensures value { result ≡ in_service (unit_of self.now) }
+        ensures value { result ≡ capacity_in_service (unit_of self.now) }
         ensures held { result ≤ self.now.capacity }
     {
         self.while_serving(self.capacity)
@@ -62,7 +62,7 @@ impl UnitRecord {
     pub(crate) fn plain(&self) -> (u32, u32)
         ensures { result ≡ plain_unit (unit_of self.now) }
     {
-        (self.capacity, self.while_serving(1))
+        (self.capacity, u32::from(self.serving))
     }
 
     // A number that counts only while the unit is in service.

@@ -2,9 +2,10 @@
 ghost use Rattle.std.specs.Prelude.{◌≡◌, ℕ, ◌<◌, ◌≤◌, map, length, IfSome};
 ghost use Rattle.std.specs.Fn.{FnReturnsAt};
 ghost use Rattle.fleet.specs.Refusals.{Outcome};
-ghost use Rattle.fleet.specs.Units.{GeneratingUnit, unit_of, total as total_of};
+ghost use Rattle.fleet.specs.Units.{GeneratingUnit, unit_of, in_service, total as total_of};
 ghost use Rattle.fleet.specs.LookUp.{place as place_of};
 ghost use Rattle.fleet.specs.Adding.{room_refusal};
+ghost use Rattle.fleet.specs.Standing.{unit_at};
 ghost use Rattle.fleet.specs.Registers.{units_of};
 ghost use Rattle.fleet.specs.declared.record.UnitRecord.{UnitRecord};
 
@@ -28,6 +29,14 @@ impl Register {
         self.units.len()
     }
 
+    // How many of them are in service.
+    pub(crate) fn serving(&self) -> usize
+        ensures value { result ≡ length (in_service (units_of self.now)) }
+        ensures few { result ≤ 64 }
+    {
+        self.registered().iter().filter(|unit| unit.serving).count()
+    }
+
     // The place of the unit with an identity.
     pub(crate) fn find(&self, identity: u32) -> Option<usize>
         ensures place { result ≡ place_of identity (units_of self.now) }
@@ -36,6 +45,14 @@ impl Register {
         self.registered()
             .iter()
             .position(|unit| unit.identity == identity)
+    }
+
+    // The unit at a place.
+    pub(crate) fn at(&self, place: usize) -> &UnitRecord
+        requires { place < length (units_of self.now) }
+        ensures { unit_at place (units_of self.now) ≡ unit_of result.now }
+    {
+        &self.registered()[place]
     }
 
     // The sum of what the units count for, none of them for more than its capacity.
@@ -53,17 +70,16 @@ impl Register {
     }
 
     // Whether one unit more finds room.
-    pub(crate) fn room(&self, identity: u32, capacity: u32) -> Result<(), Refusal>
-        requires { capacity ≤ 1000 }
-        ensures { Outcome (room_refusal (units_of self.now) identity capacity) result (λ _. Unit {0}) }
+    pub(crate) fn room(&self, unit: &UnitRecord) -> Result<(), Refusal>
+        ensures { Outcome (room_refusal (units_of self.now) unit.now.identity unit.now.capacity) result (λ _. Unit {0}) }
     {
-        if self.find(identity).is_some() {
+        if self.find(unit.identity).is_some() {
             return Err(Refusal::Registered);
         }
         if self.units.is_full() {
             return Err(Refusal::Full);
         }
-        if self.total(UnitRecord::whole_capacity) + capacity > CAPACITY {
+        if self.total(UnitRecord::whole_capacity) + unit.capacity > CAPACITY {
             return Err(Refusal::TotalCapacity);
         }
         Ok(())

@@ -19,17 +19,14 @@ impl Table {
         rounding::add(rule, unit.states(), &mut self.entries);
     }
 
-    // Adds a unit if it is in service, and answers how many units that adds.
-    pub(super) fn add_if_serving<R: Rounding>(&mut self, rule: &R, unit: &UnitRecord) -> u32
+    // Adds a unit if it is in service.
+    pub(super) fn add_if_serving<R: Rounding>(&mut self, rule: &R, unit: &UnitRecord)
         ensures entries { self.new.entries ≡ (if unit.now.serving then added (R.answer rule.now) (unit_of unit.now).states self.old.entries else self.old.entries) }
         ensures zeros { (m : ℕ) → Zeros m self.old.entries → Zeros (m + service_outage (unit_of unit.now)) self.new.entries }
-        ensures count { result ≡ (if unit.now.serving then 1 else 0) }
     {
-        if !unit.serving {
-            return 0;
+        if unit.serving {
+            self.add(rule, unit);
         }
-        self.add(rule, unit);
-        1
     }
 
     // Takes a unit out under the rule. `greatest` is the greatest possible outage without it.

@@ -1,5 +1,5 @@
 // Tables made anew: an open one, and one of the units in service.
-ghost use Rattle.std.specs.Prelude.{◌≡◌, ◌≤◌, map, length};
+ghost use Rattle.std.specs.Prelude.{◌≡◌, map};
 ghost use Rattle.rounding.specs.Table.{Zeros};
 ghost use Rattle.fleet.specs.Units.{unit_of, in_service, greatest_outage};
 ghost use Rattle.fleet.specs.Ledger.{open_table};
@@ -19,19 +19,15 @@ impl Table {
         Table { entries }
     }
 
-    // Adds to an open table, in their order, those of the units that are in service, and answers
-    // their number.
-    pub(crate) fn build<R: Rounding>(&mut self, rule: &R, units: &[UnitRecord]) -> u32
-        requires few { length units.now ≤ 64 }
-        requires open { self.old.entries ≡ open_table }
-        ensures entries { self.new.entries ≡ table_of (R.answer rule.now) (in_service (map unit_of units.now)) }
-        ensures zeros { Zeros (greatest_outage (map unit_of units.now)) self.new.entries }
-        ensures count { result ≡ length (in_service (map unit_of units.now)) }
+    // An open table with those of the units that are in service added in their order.
+    pub(crate) fn of<R: Rounding>(rule: &R, units: &[UnitRecord]) -> Table
+        ensures entries { result.entries ≡ table_of (R.answer rule.now) (in_service (map unit_of units.now)) }
+        ensures zeros { Zeros (greatest_outage (map unit_of units.now)) result.entries }
     {
-        let mut count: u32 = 0;
+        let mut table = Table::open();
         for unit in units {
-            count += self.add_if_serving(rule, unit);
+            table.add_if_serving(rule, unit);
         }
-        count
+        table
     }
 }

@@ -4,8 +4,8 @@ use Rattle.rounding.specs.Table.{Zeros}
 use Rattle.fleet.specs.States.{outage_of_last}
 use Rattle.fleet.proofs.table.Table.add_if_serving.Goals as goal
 
-pub returns-clause-zeros : goal.returns-clause-zeros
-returns-clause-zeros g c =
+pub returns-then-unit-clause-zeros : goal.returns-then-unit-clause-zeros
+returns-then-unit-clause-zeros g c =
     let unit = c.args.unit.now in
     let last = outage_of_last unit.states.items in
-    λ m zeros. subst (λ n. Zeros (m + n) c.add.new.self.entries) (sym (cond-true unit.serving last 0 c.if-not-unit.false)) (c.add.ensures.zeros m zeros)
+    λ m zeros. subst (λ n. Zeros (m + n) c.add.new.self.entries) (sym (cond-true unit.serving last 0 c.if-unit.true)) (c.add.ensures.zeros m zeros)

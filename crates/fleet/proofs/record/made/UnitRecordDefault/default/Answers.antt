@@ -1,4 +1,4 @@
-use Rattle.std.proofs.Common.{◌≡◌, true, [], ◌∷◌, ◌++◌, refl, ap, ◌∙◌}
+use Rattle.std.proofs.Common.{◌≡◌, true, [], ◌∷◌, ◌++◌, refl, ap, ◌∙◌, arith}
 use Rattle.rounding.specs.Mixture.{weights}
 use Rattle.rounding.specs.declared.state.State.{State}
 use Rattle.fleet.specs.States.{later, lawful}
@@ -12,4 +12,4 @@ unfolding lawful later weights
 sure_lawful = refl
 
 pub invariant_of-result : goal.invariant_of-result
-invariant_of-result c = record { ruled = ap (lawful 0) (c.push.ensures.items ∙ ap (λ states. states ++ sure ∷ []) c.new-states.ensures) ∙ sure_lawful }
+invariant_of-result c = record { held = omega arith; ruled = ap (lawful 0) (c.push.ensures.items ∙ ap (λ states. states ++ sure ∷ []) c.new-states.ensures) ∙ sure_lawful }
