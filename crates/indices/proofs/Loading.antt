@@ -2,7 +2,8 @@
 use Rattle.std.proofs.Common.{◌≡◌, ℕ, zero, suc, ◌<◌, ◌≤◌, min, Bool, true, false, not, eqb, leb, List, [], ◌∷◌, length, get_or, None, refl, ap, ⊎_elim, arith}
 use Rattle.std.proofs.lemmas.List.{ext_get_or, get_or_past}
 use Rattle.std.proofs.lemmas.List.FromFn.{length-map-range_with_len, get_or-map-range_with_len}
-use Rattle.std.proofs.lemmas.Bool.{leb-true, le-leb, lt-leb, and_parts, and_from, and_left, and_right, cases_lt, cond_both}
+use Rattle.std.proofs.lemmas.List.Folds.{list_all_at}
+use Rattle.std.proofs.lemmas.Bool.{leb-true, le-leb, lt-leb, and_parts, and_from, cases_lt, cond_both}
 use Rattle.fleet.specs.Refusals.{refused_if}
 use Rattle.fleet.specs.declared.refusal.Refusal.TheVariants.{Loads}
 use Rattle.indices.specs.Loads.{most_days, limit, above_limit, day_count, all_within_limit, held_days, Bounded, as_loads}
@@ -18,9 +19,7 @@ within_all (load ∷ loads) each =
 
 pub within_not : (loads : List ℕ) (day : ℕ) → day < length loads → limit < get_or loads day 0 → all_within_limit loads ≡ false
 unfolding all_within_limit
-within_not [] day inside over = absurd (omega arith)
-within_not (load ∷ loads) zero inside over = and_left _ _ (lt-leb load limit over)
-within_not (load ∷ loads) (suc day) inside over = and_right (leb load limit) _ (within_not loads day (omega arith) over)
+within_not loads day inside over = list_all_at (λ load. leb load limit) loads day 0 inside (lt-leb _ limit over)
 
 pub within_each : (loads : List ℕ) → all_within_limit loads ≡ true → (day : ℕ) → get_or loads day 0 ≤ limit
 unfolding all_within_limit

@@ -8,7 +8,7 @@ use Rattle.indices.specs.declared.text.Reader.{Reader}
 use Rattle.indices.specs.Fault.{fault_at, fault_of_line}
 use Rattle.indices.specs.Names.{column, among, all, fresh, order}
 use Rattle.indices.specs.End.{final}
-use Rattle.indices.specs.Reader.{unread, FieldRead, LineEnded, Last}
+use Rattle.indices.specs.Reader.{unread, FieldRead, LineEnded}
 use Rattle.indices.specs.Rows.{NamesRead}
 use Rattle.indices.specs.Sheet.{Sheet, no_rows, below_names, text}
 use Rattle.indices.specs.Text.{Line, with_field, complete}
@@ -95,7 +95,3 @@ module _ (was mid is : Reader) (columns : List Column) (h : Naming was mid colum
     naming_told (Err e) told Q from five same is =
         let p = err_from_is_err_and told is in
         rw (p.1, from e _ p.2) (naming_short (λ h. let z = five.1 h in cc))
-
-  pub naming_last : (fault : Fault) → Last mid.line (unread mid) (Some fault) → text (unread was) ≡ no_rows (Some fault)
-  naming_last fault end =
-      h.says ∙ ap (named columns (mid.place + 1)) end.text ∙ ap (λ n. no_rows (final n end.last)) (sym h.line) ∙ ap no_rows end.is

@@ -16,14 +16,14 @@ pub const MOST_DAYS: u32 = 8_784;
 // The greatest load, in steps.
 pub const LOAD_LIMIT: u32 = 1_000;
 
-// The load that stands for one above the limit.
+// The load that stands for one above the limit: a model tells plain loads, and marks such a one.
 pub const ABOVE_LIMIT: u32 = 1_001;
 
 // Whether a study may have so many days.
 fn day_count(days: usize) -> bool
     ensures { result ≡ day_count days }
 {
-    days >= 1 && days <= MOST_DAYS as usize
+    (1..=MOST_DAYS as usize).contains(&days)
 }
 
 pub trait LoadModel {

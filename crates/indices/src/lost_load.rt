@@ -19,15 +19,6 @@ fn load_on<L: LoadModel>(model: &L, day: u32) -> Result<u32, Refusal>
     Ok(load)
 }
 
-// The place of the table from which a load is lost: one step more is out than the capacity has to
-// spare. There is none where the load is lost with nothing out.
-fn loss_place(capacity: u32, load: u32) -> Option<u32>
-    requires { capacity ≤ 1000 }
-    ensures { MatchOption result (capacity + 1 < load) (λ place. place + load ≡ capacity + 1) }
-{
-    (capacity + 1).checked_sub(load)
-}
-
 // How likely it is that a load is lost, together with the tolerance.
 fn loss(fleet: &Fleet, capacity: u32, load: u32) -> (u64, u32)
     requires in_service { capacity ≡ service_capacity (ledger_of fleet.now).units }
@@ -38,7 +29,8 @@ fn loss(fleet: &Fleet, capacity: u32, load: u32) -> (u64, u32)
     let Ok((certain, tolerance)) = fleet.entry(0) else {
         unreachable!()
     };
-    let Some(place) = loss_place(capacity, load) else {
+    // one step more is out than the capacity has to spare, if the load is met with nothing out
+    let Some(place) = (capacity + 1).checked_sub(load) else {
         return (certain, tolerance);
     };
     match fleet.entry(place) {

@@ -14,6 +14,7 @@ use arrayvec::ArrayVec;
 // A sheet has five columns.
 pub const COLUMNS: usize = 5;
 
+// The default is what an `ArrayVec` has in its unused places.
 #[derive(Clone, Copy, PartialEq, Eq, Default)]
 pub enum Column {
     #[default]

@@ -30,8 +30,8 @@ pub struct Reader<'a> {
     pub line: u32,
     // the field of that line that was read last, from 1; 0 before the first
     place: u32,
-    // the line feed of that line is read; a flag, and not a case, since the place counts on either
-    // side of it
+    // the line feed of that line is read; a flag beside the place, since what a token says of the
+    // text counts the place on either side of it
     ended: bool,
     // the lines and the fields of a line can be counted
     ghost fits: { line + place + length rest.now < 2 ^ 32 },

@@ -48,8 +48,8 @@ fn take_row<R: Rounding>(fleet: &mut Fleet, rule: &R, row: &Row) -> Result<(), F
     Ok(())
 }
 
-// Adds the units of a sheet, row by row, and counts them in `added`, which also holds where a fault
-// stops it.
+// Adds the units of a sheet, row by row. They are counted beside the answer, so that `?` hands a
+// fault on as it is, and their number is known where one stops it.
 fn take_sheet<R: Rounding>(
     fleet: &mut Fleet,
     rule: &R,

@@ -6,10 +6,6 @@ use Rattle.rounding.specs.Table.{full, entry_before}
 use Rattle.rounding.specs.Mixture.{million, weights, amount, mixture}
 use Rattle.rounding.specs.declared.state.State.{State}
 
--- the states that carry no weight at all: what a read past the end gives
-abbrev nothing : State
-nothing = record { outage = 0; weight = 0 }
-
 pub weights_cons : (s : State) (states : List State) → weights (s ∷ states) ≡ s.weight + weights states
 unfolding weights
 weights_cons s states = sum_by-cons _ s states

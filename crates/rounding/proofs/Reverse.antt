@@ -14,10 +14,6 @@ use Rattle.rounding.proofs.Amounts.{amount_cons, amount_none, mixture_cons, mixt
 use Rattle.rounding.proofs.Errors.{near_multiple, removal_pays, removal_grows, entry_over, entry_under, min_near}
 use Rattle.rounding.proofs.Recursion.{before_at, before_below, before_agrees, before_is, amount_agrees, amount_over, amount_under, entry_le}
 
-pub starting_some : (states : List State) → length states < 1 → Starting states → ⊥
-starting_some [] none starting = starting
-starting_some (s ∷ states) none starting = omega arith
-
 -- the states as `[first, rest @ ..]` takes them apart
 pub states_apart : (states : List State) (d : State) → 1 ≤ length states → states ≡ get_or states 0 d ∷ take (length states - 1) (drop 1 states)
 states_apart [] d some = absurd (omega arith)

@@ -33,7 +33,7 @@ impl<'a, L: LoadModel> Growth<'a, L> {
     pub fn new(below: &'a L, percent: u32) -> Result<Growth<'a, L>, Refusal>
         ensures { Outcome (percent_refusal percent) result (λ model. growth_loads L.loads model ≡ grown_loads percent (L.loads below.now)) }
     {
-        if percent == 0 || percent > MOST_PERCENT {
+        if !(1..=MOST_PERCENT).contains(&percent) {
             return Err(Refusal::Loads);
         }
         Ok(Growth { below, percent })

@@ -2,12 +2,9 @@ use Rattle.std.proofs.Common.{◌≡◌, Some, Ok, sym, ap, ◌∙◌, subst, ar
 use Rattle.indices.specs.Names.{column, fresh}
 use Rattle.indices.specs.Reader.{FieldRead, LineEnded, Reads}
 use Rattle.indices.specs.Sheet.{no_rows}
-use Rattle.indices.proofs.Naming.{naming_wrong, naming_room, naming_more, naming_told, naming_last}
+use Rattle.indices.proofs.Naming.{naming_wrong, naming_room, naming_more, naming_told}
 use Rattle.indices.proofs.names.read_names.Goals as goal
 use Rattle.indices.proofs.names.read_names.Goals.{In-Field, In-LineEnd, In_ok-fresh_column-in-Field}
-
-pub returns-in_err-field : goal.returns-in_err-field
-returns-in_err-field c = search (rules, naming_last)
 
 -- what `token` said of the field
 read : (c : In-Field) → FieldRead c.loop-field.reader c.in-Field.field.bytes.now c.in-Field.field.line c.in-Field.field.place c.token.new.self

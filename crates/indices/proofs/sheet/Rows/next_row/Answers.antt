@@ -3,18 +3,13 @@ use Rattle.std.proofs.lemmas.Option.{MatchOption-at_some}
 use Rattle.indices.specs.Row.{row_of}
 use Rattle.indices.specs.Rows.{ValuesRead}
 use Rattle.indices.specs.Sheet.{rate_fault}
-use Rattle.indices.proofs.Next.{remaining_unread, not_five, judged, row_read}
+use Rattle.indices.proofs.Next.{not_five, judged, row_read}
 use Rattle.indices.proofs.sheet.Rows.next_row.Goals as goal
 use Rattle.indices.proofs.sheet.Rows.next_row.Goals.{In-Some}
 
 -- what `read_values` said of the line
 read : (c : In-Some) → ValuesRead c.args.self.now.reader c.in-Some.values.items c.read_values.new.reader
 read c = MatchOption-at_some _ (λ values. ValuesRead c.args.self.now.reader values.items c.read_values.new.reader) _ c.in-Some.is c.in_ok-values.ensures
-
-pub returns-in_err-values : goal.returns-in_err-values
-returns-in_err-values c =
-    let told = remaining_unread c.args.self.now c.requires ∙ c.in_err-values.ensures c.args.self.now.columns in
-    search rules
 
 pub returns-then-len-ne-COLUMNS : goal.returns-then-len-ne-COLUMNS
 returns-then-len-ne-COLUMNS c =
