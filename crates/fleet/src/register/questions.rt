@@ -16,8 +16,7 @@ use crate::refusal::Refusal;
 impl Register {
     // The registered units, the earliest first.
     pub(crate) fn registered(&self) -> &[UnitRecord]
-        ensures units { map unit_of result.now ≡ units_of self.now }
-        ensures few { length result.now ≤ 64 }
+        ensures { map unit_of result.now ≡ units_of self.now }
     {
         self.units.as_slice()
     }
@@ -34,7 +33,8 @@ impl Register {
         ensures value { result ≡ length (in_service (units_of self.now)) }
         ensures few { result ≤ 64 }
     {
-        self.registered().iter().filter(|unit| unit.serving).count()
+        let units = self.units.as_slice();
+        units.iter().filter(|unit| unit.serving).count()
     }
 
     // The place of the unit with an identity.

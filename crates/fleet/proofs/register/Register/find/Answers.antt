@@ -11,4 +11,4 @@ pub returns-clause-place : goal.returns-clause-place
 returns-clause-place c =
     let records = c.registered.result.now in
     position_from_yields_List (λ (r : UnitRecord). eqb r.identity c.args.identity) _ _ _ c.position.ensures.ran (YieldsList-from_slice records cc) (λ x b q k. search (rules, tests))
-    ∙ sym (place_recorded c.args.identity records) ∙ ap (place c.args.identity) c.registered.ensures.units
+    ∙ sym (place_recorded c.args.identity records) ∙ ap (place c.args.identity) c.registered.ensures

@@ -21,7 +21,7 @@ pub overflow_add-sum : goal.overflow_add-sum
 overflow_add-sum g c =
     let self = c.args.self.now in
     let records = c.registered-unit-items.result.now in
-    omega (arith, held g c, total_take whole_capacity records (c.loop-unit.unit-index + 1), ap registered_capacity c.registered-unit-items.ensures.units, self.capacity)
+    omega (arith, held g c, total_take whole_capacity records (c.loop-unit.unit-index + 1), ap registered_capacity c.registered-unit-items.ensures, self.capacity)
 
 pub loop-unit-preserved : goal.loop-unit-preserved
 loop-unit-preserved g c = record {
