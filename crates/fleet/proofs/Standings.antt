@@ -19,12 +19,6 @@ pub total_standing : (share : GeneratingUnit → ℕ) (serving : Bool) (i : ℕ)
 unfolding total
 total_standing share serving i units h = sum_by-set share units i (standing_as serving (unit_at i units)) blank h
 
--- what the register shows at a place is the unit there
-pub unit_there : (records : List UnitRecord) (units : List GeneratingUnit) (place : ℕ) (d r : UnitRecord) → map unit_of records ≡ units → place < length units → r ≡ get_or records place d → unit_at place units ≡ unit_of r
-unit_there records units place d r all inside is =
-    let long = length-map records unit_of in
-    ap (unit_at place) (sym all) ∙ get_or-map unit_of records place d blank (omega (arith, ap length all)) ∙ ap unit_of (sym is)
-
 pub capacity_standing : (serving : Bool) (i : ℕ) (units : List GeneratingUnit) → i < length units → registered_capacity (with_standing serving i units) ≡ registered_capacity units
 capacity_standing serving i units h = omega (arith, total_standing whole_capacity serving i units h)
 

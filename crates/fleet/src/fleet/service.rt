@@ -18,6 +18,7 @@ use crate::refusal::Refusal;
 use crate::table::Table;
 use rounding::Rounding;
 
+// Each call turns what the look-up finds into a refusal of its own list.
 impl Fleet {
     // Sets a unit in service out, takes it out of the table under the rule, and answers the new
     // tolerance.

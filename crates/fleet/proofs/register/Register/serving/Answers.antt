@@ -1,5 +1,4 @@
-use Rattle.std.proofs.Common.{◌≡◌, map, length, count_by, sym, ap, ◌∙◌, arith, rules}
-use Rattle.std.proofs.lemmas.List.Sums.{count_by-le-length}
+use Rattle.std.proofs.Common.{◌≡◌, map, length, count_by, sym, ap, ◌∙◌, rules}
 use Rattle.fleet.specs.Units.{unit_of, in_service}
 use Rattle.fleet.specs.declared.record.UnitRecord.{UnitRecord}
 use Rattle.fleet.proofs.Building.{serving_counted}
@@ -10,6 +9,3 @@ counted c = search rules
 
 pub returns-clause-value : goal.returns-clause-value
 returns-clause-value c = counted c ∙ sym (serving_counted c.as_slice-units.result.now) ∙ ap (λ records. length (in_service (map unit_of records))) c.as_slice-units.ensures.value
-
-pub returns-clause-few : goal.returns-clause-few
-returns-clause-few c = omega (arith, counted c, count_by-le-length (λ (r : UnitRecord). r.serving) c.as_slice-units.result.now, c.as_slice-units.ensures.fits)
