@@ -1,5 +1,5 @@
 // The expected days of lost load.
-ghost use Rattle.std.specs.Prelude.{◌≡◌, ◌+◌, ◌<◌, ◌≤◌, MatchOption, slice_index};
+ghost use Rattle.std.specs.Prelude.{◌≡◌, ◌≤◌, slice_index};
 ghost use Rattle.fleet.specs.Refusals.{Outcome};
 ghost use Rattle.fleet.specs.Units.{capacity as service_capacity};
 ghost use Rattle.fleet.specs.Fleets.{ledger_of};

@@ -1,5 +1,5 @@
 // A place of a table, and what can be read of the table from there down.
-ghost use Rattle.std.specs.Prelude.{◌≡◌, ℕ, ◌*◌, ◌<◌, ◌≤◌, length, slice_index};
+ghost use Rattle.std.specs.Prelude.{◌≡◌, ℕ, ◌<◌, ◌≤◌, length, slice_index};
 ghost use Rattle.rounding.specs.Table.{full, entry_before};
 ghost use Rattle.rounding.specs.Mixture.{million, weights, amount as amount_of};
 

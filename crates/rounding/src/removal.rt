@@ -1,7 +1,7 @@
 // The reverse of the recursion: taking a unit out of a table.
-ghost use Rattle.std.specs.Prelude.{◌≡◌, ℕ, ◌-◌, ◌*◌, ◌<◌, ◌≤◌, length, slice_index};
+ghost use Rattle.std.specs.Prelude.{◌≡◌, ℕ, ◌*◌, ◌<◌, ◌≤◌, slice_index};
 ghost use Rattle.rounding.specs.Table.{full, Falling, Zeros, Within};
-ghost use Rattle.rounding.specs.Mixture.{million, weights, amount as amount_of, mixture};
+ghost use Rattle.rounding.specs.Mixture.{million, weights, mixture};
 ghost use Rattle.rounding.specs.Tolerance.{removal_tolerance};
 ghost use Rattle.rounding.specs.Removing.{Starting, first_weight, entry_without, without, Tail};
 
