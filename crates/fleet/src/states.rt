@@ -3,7 +3,6 @@ ghost use Rattle.std.specs.Prelude.{◌≡◌, ◌≤◌, length};
 ghost use Rattle.rounding.specs.Mixture.{weights};
 ghost use Rattle.fleet.specs.States.{starts as state_starts, follows as state_follows, later as later_states, lawful as lawful_states};
 
-use arrayvec::ArrayVec;
 use rounding::{MILLION, State};
 
 // A unit has at most this many states.
@@ -46,13 +45,15 @@ fn starts(state: State) -> bool
 }
 
 // Whether the states keep every rule for a unit of this capacity.
-pub(crate) fn lawful(capacity: u32, states: &ArrayVec<State, STATES>) -> bool
-    ensures { result ≡ lawful_states capacity states.now.items }
+pub(crate) fn lawful(capacity: u32, states: &[State]) -> bool
+    ensures { result ≡ lawful_states capacity states.now }
 {
-    let states = states.as_slice();
     let [first, rest @ ..] = states else {
         return false;
     };
+    if states.len() > STATES {
+        return false;
+    }
     starts(*first)
         && later(capacity, first.outage, rest)
         && total_weight(states) == u64::from(MILLION)

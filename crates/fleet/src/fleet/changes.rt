@@ -27,7 +27,8 @@ impl Fleet {
     }
 
     // Appends a unit in service, adds it to the table under the rule, and answers the new
-    // tolerance.
+    // tolerance. Inlined, so that states which the caller's text fixes are known to the recursion.
+    #[inline(always)]
     pub fn add<R: Rounding>(
         &mut self,
         rule: &R,

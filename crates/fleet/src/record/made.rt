@@ -46,17 +46,35 @@ impl UnitRecord {
         if !(1..=CAPACITY).contains(&capacity) {
             return Err(Refusal::Capacity);
         }
-        let Ok(states) = ArrayVec::try_from(states) else {
-            return Err(Refusal::States);
-        };
-        if !lawful(capacity, &states) {
+        if !lawful(capacity, states) {
             return Err(Refusal::States);
         }
+        let Ok(states) = ArrayVec::try_from(states) else {
+            // states that keep the rules are at most eight
+            unreachable!()
+        };
         Ok(UnitRecord {
             identity,
             capacity,
             states,
             serving: true,
         })
+    }
+
+    // The same unit once more. While a table is changed, a copy beside the fleet lets the compiler
+    // keep the states at hand.
+    pub(crate) fn copied(&self) -> UnitRecord
+        ensures { unit_of result ≡ unit_of self.now }
+    {
+        let Ok(states) = ArrayVec::try_from(self.states.as_slice()) else {
+            // a unit has no more states than fit
+            unreachable!()
+        };
+        UnitRecord {
+            identity: self.identity,
+            capacity: self.capacity,
+            states,
+            serving: self.serving,
+        }
     }
 }

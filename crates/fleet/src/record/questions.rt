@@ -9,13 +9,17 @@ ghost use Rattle.fleet.specs.Standing.{standing_refusal};
 
 use super::UnitRecord;
 use crate::refusal::Refusal;
+use crate::states::STATES;
 use rounding::State;
 
 impl UnitRecord {
+    // The states, for the recursion, which asks for them at every place of a table: held to the room
+    // that there is, so that the compiler knows how many there can be.
     pub(crate) fn states(&self) -> &[State]
         ensures { result.now ≡ (unit_of self.now).states }
     {
-        self.states.as_slice()
+        let states = self.states.as_slice();
+        &states[..states.len().min(STATES)]
     }
 
     // The outage of the last state, which is the greatest.
@@ -23,7 +27,7 @@ impl UnitRecord {
         ensures value { result ≡ outage_of_last (unit_of self.now).states }
         ensures held { result ≤ self.now.capacity }
     {
-        self.states().last().map_or(0, |state| state.outage)
+        self.states.last().map_or(0, |state| state.outage)
     }
 
     // The weight of the first state, in which nothing is out.
@@ -31,7 +35,7 @@ impl UnitRecord {
         ensures value { result ≡ weight_of_first (unit_of self.now).states }
         ensures held { result ≤ 1000000 }
     {
-        self.states().first().map_or(0, |state| state.weight)
+        self.states.first().map_or(0, |state| state.weight)
     }
 
     // What the unit counts for in the capacity of all registered units.

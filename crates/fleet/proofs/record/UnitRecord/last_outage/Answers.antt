@@ -9,7 +9,7 @@ told : (c : goal.After-map_or) → c.map_or.result ≡ unwrap_or (option_map (λ
 told c = search rules
 
 pub returns-clause-value : goal.returns-clause-value
-returns-clause-value c = rw (last_is c.args.self.now.states.items, ← c.states.ensures, ← c.last.ensures.value) (told c)
+returns-clause-value c = rw (last_is c.args.self.now.states.items, ← c.deref.ensures.0, ← c.last.ensures.value) (told c)
 
 pub returns-clause-held : goal.returns-clause-held
 returns-clause-held c =
