@@ -1,5 +1,6 @@
 -- What an accepted unit gives, and the ledger with it. Assumes nothing.
-use Rattle.std.proofs.Common.{◌≡◌, ℕ, ◌+◌, ◌≤◌, List, [], ◌∷◌, ◌++◌, None, sym, ap, ◌∙◌}
+use Rattle.std.proofs.Common.{◌≡◌, ℕ, ◌+◌, ◌≤◌, List, [], ◌∷◌, ◌++◌, length, None, sym, ap, ◌∙◌}
+use Rattle.std.proofs.lemmas.List.FromFn.{length-map-range_with_len}
 use Rattle.std.proofs.lemmas.Bool.{ltb-false}
 use Rattle.rounding.specs.Tolerance.{raised}
 use Rattle.rounding.specs.Adding.{added}
@@ -15,6 +16,11 @@ use Rattle.fleet.proofs.Listing.{total_push}
 
 pub accepted_tolerance : (tolerance : ℕ) → tolerance_refusal tolerance ≡ None → tolerance ≤ 1000000
 accepted_tolerance tolerance h = ltb-false 1000000 tolerance (accepted _ Tolerance h)
+
+-- a unit more leaves a table as long as it was
+pub length_added : (answer : ℕ → ℕ → ℕ) (states : List State) (old : List ℕ) → length (added answer states old) ≡ length old
+unfolding added
+length_added answer states old = length-map-range_with_len _ 0 (length old)
 
 -- the greatest outage rises by the last outage of the new unit
 pub added_outage : (units new : List GeneratingUnit) (identity capacity : ℕ) (states : List State) → new ≡ units ++ new_unit identity capacity states ∷ [] → greatest_outage new ≡ greatest_outage units + outage_of_last states

@@ -1,7 +1,7 @@
 -- A table built from the units in service, one after another. Assumes nothing.
-use Rattle.std.proofs.Common.{◌≡◌, ℕ, ◌+◌, ◌<◌, Bool, true, false, cond, List, [], ◌∷◌, ◌++◌, map, length, get_or, take, filter, count_by, sym, refl, ap, ◌∙◌, subst}
+use Rattle.std.proofs.Common.{◌≡◌, ℕ, ◌+◌, ◌<◌, ◌≤◌, Bool, true, false, cond, List, [], ◌∷◌, ◌++◌, map, length, get_or, take, filter, count_by, sym, refl, ap, ◌∙◌, subst, arith}
 use Rattle.std.proofs.lemmas.List.{append-nil, length-map, map_more}
-use Rattle.std.proofs.lemmas.List.Sums.{fold_push, length-filter}
+use Rattle.std.proofs.lemmas.List.Sums.{fold_push, length-filter, count_by-le-length}
 use Rattle.std.proofs.lemmas.List.Elements.{filter-append}
 use Rattle.rounding.specs.Table.{Zeros}
 use Rattle.rounding.specs.Adding.{added}
@@ -59,3 +59,7 @@ serving_recorded (r ∷ records) = kept r.serving r _ _ (serving_recorded record
 pub serving_counted : (records : List UnitRecord) → length (in_service (map unit_of records)) ≡ count_by (λ (r : UnitRecord). r.serving) records
 serving_counted records =
     ap length (serving_recorded records) ∙ length-map (filter (λ (r : UnitRecord). r.serving) records) unit_of ∙ length-filter (λ (r : UnitRecord). r.serving) records
+
+-- no more units are in service than there are
+pub service_few : (units : List GeneratingUnit) → length (in_service units) ≤ length units
+service_few units = let serving = λ (u : GeneratingUnit). u.serving in omega (arith, length-filter serving units, count_by-le-length serving units)

@@ -1,8 +1,10 @@
 -- What an accepted removal gives, and the ledger after it. Assumes nothing.
-use Rattle.std.proofs.Common.{◌≡◌, ℕ, ◌<◌, ◌≤◌, false, None, sym, ap, ◌∙◌}
+use Rattle.std.proofs.Common.{◌≡◌, ℕ, zero, suc, ◌+◌, ◌<◌, ◌≤◌, false, List, [], ◌∷◌, length, None, sym, refl, ap, ◌∙◌, add-one}
+use Rattle.std.proofs.lemmas.List.{length-append}
 use Rattle.std.proofs.lemmas.Bool.{leb-false}
 use Rattle.rounding.specs.Tolerance.{removal_tolerance}
-use Rattle.rounding.specs.Removing.{without}
+use Rattle.rounding.specs.Removing.{entries_without, without}
+use Rattle.rounding.specs.declared.state.State.{State}
 use Rattle.fleet.specs.Refusals.{first}
 use Rattle.fleet.specs.Units.{GeneratingUnit, greatest_outage}
 use Rattle.fleet.specs.Ledger.{Ledger}
@@ -17,6 +19,18 @@ pub accepted_removal : (weight tolerance : ℕ) → first (weight_refusal weight
 accepted_removal weight tolerance h =
     let both = both_accepted (weight_refusal weight) _ h in
     (leb-false weight 500000 (accepted _ FirstWeight both.0), accepted_tolerance _ both.1)
+
+-- a unit less leaves a table as long as it was
+length_entries : (answer : ℕ → ℕ → ℕ) (first : State) (rest : List State) (greatest : ℕ) (old : List ℕ) (n : ℕ) → length (entries_without answer first rest greatest old n) ≡ n
+unfolding entries_without
+length_entries answer first rest greatest old zero = refl
+length_entries answer first rest greatest old (suc k) =
+    length-append (entries_without answer first rest greatest old k) _ ∙ ap (λ n. n + 1) (length_entries answer first rest greatest old k) ∙ add-one k
+
+pub length_without : (answer : ℕ → ℕ → ℕ) (states : List State) (greatest : ℕ) (old : List ℕ) → length (without answer states greatest old) ≡ length old
+unfolding without
+length_without answer [] greatest old = refl
+length_without answer (first ∷ rest) greatest old = length_entries answer first rest greatest old (length old)
 
 -- the ledger without the unit at a place
 pub after_accepted : (answer : ℕ → ℕ → ℕ) (l new : Ledger) (identity place greatest : ℕ) (u : GeneratingUnit) → withdraw_refusal l identity ≡ None → place_with identity l.units ≡ place → unit_at place l.units ≡ u → greatest ≡ greatest_outage (with_standing false place l.units) → new.units ≡ with_standing false place l.units → new.table ≡ without answer u.states greatest l.table → new.tolerance ≡ withdrawn_tolerance u.states l.tolerance → new ≡ after_withdraw answer l identity

@@ -1,10 +1,32 @@
--- Laws of columns: among others or not, and no more than five apart. Assumes nothing.
+-- Laws of columns: equal or not, among others or not, and no more than five apart. Assumes nothing.
 use Rattle.std.proofs.Common.{◌≡◌, ℕ, ◌+◌, ◌<◌, ◌≤◌, true, false, cond, ◌||◌, eqb, List, [], ◌∷◌, ◌++◌, length, sym, refl, ap, ◌∙◌, ⊎_elim, arith}
 use Rattle.std.proofs.lemmas.List.{length_push}
-use Rattle.std.proofs.lemmas.Bool.{eqb-true, cases_Bool, or_parts, and_parts, and_from}
+use Rattle.std.proofs.lemmas.Bool.{eqb-true, ne_eqb, eq-eqb, cases_Bool, or_parts, and_parts, and_from}
 use Rattle.indices.specs.declared.names.Column.{Column}
 use Rattle.indices.specs.declared.names.Column.TheVariants.{Id, Cap, Rate, Part, Prate}
 use Rattle.indices.specs.Names.{index, same, among, all}
+
+-- two columns are the same exactly if they are equal
+at_index : ℕ → Column
+at_index n = cond (eqb n 0) Id (cond (eqb n 1) Cap (cond (eqb n 2) Rate (cond (eqb n 3) Part Prate)))
+
+at_index_of : (c : Column) → at_index (index c) ≡ c
+unfolding at_index
+at_index_of Id = refl
+at_index_of Cap = refl
+at_index_of Rate = refl
+at_index_of Part = refl
+at_index_of Prate = refl
+
+pub equal_from_same : (c d : Column) → same c d ≡ true → c ≡ d
+equal_from_same c d h = sym (at_index_of c) ∙ ap at_index (eqb-true (index c) (index d) h) ∙ at_index_of d
+
+pub same_from_equal : (c d : Column) → c ≡ d → same c d ≡ true
+same_from_equal c d e = eq-eqb (index c) (index d) (ap index e)
+
+pub same_not : (c d : Column) → (c ≡ d → ⊥) → same c d ≡ false
+same_not c d h =
+    ne_eqb (index c) (index d) (λ e. h (equal_from_same c d (eq-eqb (index c) (index d) e)))
 
 -- how many of the columns have an index
 abbrev count : ℕ → List Column → ℕ

@@ -1,11 +1,12 @@
 -- Lost load: a place above the table, and the sum over the days. Assumes nothing.
-use Rattle.std.proofs.Common.{◌≡◌, ℕ, ◌+◌, ◌<◌, ◌≤◌, Bool, true, false, not, ltb, List, length, get_or, take, Some, None, sym, refl, ap, ◌∙◌}
+use Rattle.std.proofs.Common.{◌≡◌, ℕ, ◌+◌, ◌-◌, ◌<◌, ◌≤◌, Bool, true, false, not, ltb, List, length, get_or, take, Some, None, sym, refl, ap, ◌∙◌}
+use Rattle.std.proofs.lemmas.List.{get_or_past}
 use Rattle.std.proofs.lemmas.List.Sums.{sum_by_more}
 use Rattle.std.proofs.lemmas.Option.{none-some}
 use Rattle.std.proofs.lemmas.Bool.{ltb-true}
-use Rattle.rounding.specs.Table.{full, Falling}
+use Rattle.rounding.specs.Table.{full, entry_before, Falling}
 use Rattle.rounding.proofs.Amounts.{before_le}
-use Rattle.rounding.proofs.Recursion.{entry_le}
+use Rattle.rounding.proofs.Recursion.{before_at, entry_le}
 use Rattle.fleet.specs.Ledger.{Ledger}
 use Rattle.fleet.specs.Refusals.{refused_if}
 use Rattle.fleet.specs.declared.refusal.Refusal.{Refusal}
@@ -18,6 +19,10 @@ use Rattle.indices.proofs.Loading.{within_all, within_not}
 pub refused_case : (case : Bool) (refusal : Refusal) (number : ℕ) → refused_if case refusal ≡ Some number → case ≡ true
 refused_case true refusal number h = refl
 refused_case false refusal number h = absurd (none-some _ h)
+
+-- above the table a load is never lost
+pub before_past : (table : List ℕ) (k load : ℕ) → load ≤ k → length table ≤ k - load → entry_before table k load ≡ 0
+before_past table k load inside past = before_at table k load inside ∙ get_or_past table (k - load) 0 past
 
 -- a loss is at most certain
 pub loss_le : (l : Ledger) → get_or l.table 0 0 ≡ full → Falling l.table → (load : ℕ) → loss l load ≤ full

@@ -12,7 +12,7 @@ use rounding::{MILLION, State};
 // A row gives at most this many states.
 const STATES: usize = 3;
 
-#[derive(Drop)]
+#[derive(Clone, Copy)]
 pub struct Row {
     pub line: u32,
     pub id: u32,
