@@ -31,7 +31,7 @@ impl Fleet {
         unit.stands(true)?;
         let tolerance = after_removal(self.tolerance, unit.first_weight())?;
         let greatest = self.register.total(UnitRecord::service_outage) - unit.service_outage();
-        self.table.remove(rule, &unit.copied(), greatest);
+        self.table.remove(rule, unit, greatest);
         self.register.set_serving(place, false);
         self.tolerance = tolerance;
         Ok(tolerance)
@@ -47,7 +47,7 @@ impl Fleet {
         let unit = self.register.at(place);
         unit.stands(false)?;
         let tolerance = raised(self.tolerance)?;
-        self.table.add(rule, &unit.copied());
+        self.table.add(rule, unit);
         self.register.set_serving(place, true);
         self.tolerance = tolerance;
         Ok(tolerance)

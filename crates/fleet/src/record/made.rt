@@ -1,4 +1,4 @@
-// Units made for the register.
+// Units made: one for a place that none has taken, one that keeps the rules, and a copy.
 ghost use Rattle.std.specs.Prelude.{◌≡◌};
 ghost use Rattle.fleet.specs.Units.{unit_of, new_unit};
 ghost use Rattle.fleet.specs.Refusals.{Outcome};
@@ -61,12 +61,12 @@ impl UnitRecord {
         })
     }
 
-    // The same unit once more. While a table is changed, a copy beside the fleet lets the compiler
-    // keep the states at hand.
+    // The same unit once more. While a table is changed, a copy that nothing else refers to lets
+    // the compiler keep the states at hand.
     pub(crate) fn copied(&self) -> UnitRecord
         ensures { unit_of result ≡ unit_of self.now }
     {
-        let Ok(states) = ArrayVec::try_from(self.states.as_slice()) else {
+        let Ok(states) = ArrayVec::try_from(self.states()) else {
             // a unit has no more states than fit
             unreachable!()
         };

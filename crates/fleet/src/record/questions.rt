@@ -13,8 +13,8 @@ use crate::states::STATES;
 use rounding::State;
 
 impl UnitRecord {
-    // The states, for the recursion, which asks for them at every place of a table: held to the room
-    // that there is, so that the compiler knows how many there can be.
+    // The states, held to the room that there is, so that the compiler knows how many there can be
+    // where the recursion asks for them at every place of a table.
     pub(crate) fn states(&self) -> &[State]
         ensures { result.now ≡ (unit_of self.now).states }
     {

@@ -1,4 +1,5 @@
-// A unit put into a table, and one taken out of it.
+// A unit put into a table, and one taken out of it. The recursion reads a copy of the unit, for the
+// reason that stands at `UnitRecord::copied`.
 ghost use Rattle.std.specs.Prelude.{◌≡◌, ℕ, ◌+◌, ◌<◌, if◌then◌else◌};
 ghost use Rattle.rounding.specs.Table.{Zeros};
 ghost use Rattle.rounding.specs.Adding.{added};
@@ -16,6 +17,7 @@ impl Table {
         ensures entries { self.new.entries ≡ added (R.answer rule.now) (unit_of unit.now).states self.old.entries }
         ensures zeros { (m : ℕ) → Zeros m self.old.entries → Zeros (m + outage_of_last (unit_of unit.now).states) self.new.entries }
     {
+        let unit = unit.copied();
         rounding::add(rule, unit.states(), &mut self.entries);
     }
 
@@ -35,6 +37,7 @@ impl Table {
         ensures entries { self.new.entries ≡ without (R.answer rule.now) (unit_of unit.now).states greatest self.old.entries }
         ensures zeros { Zeros greatest self.new.entries }
     {
+        let unit = unit.copied();
         rounding::remove(rule, unit.states(), greatest as usize, &mut self.entries);
     }
 }

@@ -1,7 +1,6 @@
 use Rattle.std.proofs.Common.{◌≡◌, ℕ, ◌+◌, ◌-◌, ◌<◌, false, List, length, Some, None, sym, ap, ◌∙◌, subst, arith, rules}
 use Rattle.std.specs.Option.{unwrap_or}
 use Rattle.rounding.specs.Table.{Zeros}
-use Rattle.rounding.specs.Removing.{first_weight as weight_of_first}
 use Rattle.rounding.specs.Tolerance.{removal_tolerance}
 use Rattle.fleet.specs.Units.{GeneratingUnit, service_outage, greatest_outage}
 use Rattle.fleet.specs.Standing.{unit_at, place_with, with_standing}
@@ -43,5 +42,5 @@ returns-clause-after g c =
     let place : c.find.result ≡ Some c.in_ok-place.place = search rules in
     let here : place_with c.args.identity units ≡ c.in_ok-place.place = ap (λ o. unwrap_or o 0) (sym c.find.ensures.place ∙ place) in
     let none : withdraw_refusal (ledger_of c.args.self.now) c.args.identity ≡ None = search rules in
-    after_accepted (g.R.Rounding.answer c.args.rule.now) (ledger_of c.args.self.now) _ c.args.identity c.in_ok-place.place (c.total.result - c.service_outage.result) _ none here (c.at-unit.ensures ∙ sym c.copied.ensures) most c.set_serving.ensures c.remove.ensures.entries
-    (c.in_ok-tolerance.ensures.1 ∙ ap (λ w. removal_tolerance w c.args.self.now.tolerance) (c.first_weight.ensures.value ∙ ap (λ u. weight_of_first u.states) (sym c.copied.ensures)))
+    after_accepted (g.R.Rounding.answer c.args.rule.now) (ledger_of c.args.self.now) _ c.args.identity c.in_ok-place.place (c.total.result - c.service_outage.result) _ none here c.at-unit.ensures most c.set_serving.ensures c.remove.ensures.entries
+    (c.in_ok-tolerance.ensures.1 ∙ ap (λ w. removal_tolerance w c.args.self.now.tolerance) c.first_weight.ensures.value)

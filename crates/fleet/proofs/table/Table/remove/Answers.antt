@@ -5,7 +5,7 @@ use Rattle.fleet.proofs.Lawful.{ruled}
 use Rattle.fleet.proofs.table.Table.remove.Goals as goal
 
 pub remove-requires-clause-shares : goal.remove-requires-clause-shares
-remove-requires-clause-shares g c = ap weights c.states.ensures ∙ (ruled _ _ c.args.unit.now.ruled).shares
+remove-requires-clause-shares g c = ap weights c.states.ensures ∙ (ruled _ _ c.copied-unit.result.ruled).shares
 
 pub remove-requires-clause-starting : goal.remove-requires-clause-starting
-remove-requires-clause-starting g c = subst Starting (sym c.states.ensures) (ruled _ _ c.args.unit.now.ruled).starting
+remove-requires-clause-starting g c = subst Starting (sym c.states.ensures) (ruled _ _ c.copied-unit.result.ruled).starting
