@@ -15,7 +15,6 @@ use super::Fleet;
 use super::tolerance::{after_removal, raised};
 use crate::record::UnitRecord;
 use crate::refusal::Refusal;
-use crate::table::Table;
 use rounding::Rounding;
 
 // Each call turns what the look-up finds into a refusal of its own list.
@@ -70,9 +69,8 @@ impl Fleet {
         ensures answer { result ≡ length (in_service (ledger_of self.old).units) }
         ensures after { ledger_of self.new ≡ after_rebuild (R.answer rule.now) (ledger_of self.old) }
     {
-        let table = Table::of(rule, self.register.registered());
+        self.table.rebuild(rule, self.register.registered());
         let count = self.register.serving() as u32;
-        self.table = table;
         self.tolerance = count;
         count
     }

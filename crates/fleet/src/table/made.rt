@@ -19,15 +19,15 @@ impl Table {
         Table { entries }
     }
 
-    // An open table with those of the units that are in service added in their order.
-    pub(crate) fn of<R: Rounding>(rule: &R, units: &[UnitRecord]) -> Table
-        ensures entries { result.entries ≡ table_of (R.answer rule.now) (in_service (map unit_of units.now)) }
-        ensures zeros { Zeros (greatest_outage (map unit_of units.now)) result.entries }
+    // Makes the table anew: an open one, to which those of the units that are in service are added
+    // in their order. It is made in place, so that no second table need be held.
+    pub(crate) fn rebuild<R: Rounding>(&mut self, rule: &R, units: &[UnitRecord])
+        ensures entries { self.new.entries ≡ table_of (R.answer rule.now) (in_service (map unit_of units.now)) }
+        ensures zeros { Zeros (greatest_outage (map unit_of units.now)) self.new.entries }
     {
-        let mut table = Table::open();
+        *self = Table::open();
         for unit in units {
-            table.add_if_serving(rule, unit);
+            self.add_if_serving(rule, unit);
         }
-        table
     }
 }
